@@ -1,0 +1,4 @@
+pub mod Fault
+pub mod Lending
+pub mod Rule
+pub mod formers
