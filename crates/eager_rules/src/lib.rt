@@ -1,8 +1,8 @@
 //! The core of a module, and what evaluating it one whole-array operation after another gives.
 #![tactic(auto)]
 
-mod core;
 mod outcome;
+mod program;
 
-pub use core::{Core, Instance, MapOp, Oper, Program};
-pub use outcome::{Outcome, Value};
+pub use outcome::{Counts, Outcome, Value};
+pub use program::{Core, Instance, MapOp, Oper, Program};

@@ -16,3 +16,16 @@ pub struct Outcome {
     pub buffers: Seq<Seq<i64>>,
     pub fault: Option<(Fault, Loc)>,
 }
+
+/// What a run of a loop program did. Each count stays at 2^64-1 once it is there.
+#[derive(Clone, Copy, Debug, PartialEq, Eq)]
+pub struct Counts {
+    /// Nests and folds that ran to their end.
+    pub nests: u64,
+    /// Nests among them that went through a temporary.
+    pub temps: u64,
+    /// Parallel loops whose guard held.
+    pub parallel: u64,
+    /// The other parallel loops that were reached.
+    pub serial: u64,
+}
