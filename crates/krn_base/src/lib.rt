@@ -2,17 +2,22 @@
 #![tactic(auto)]
 
 mod boxed;
+mod element;
 mod fault;
 mod kind;
 mod list;
 mod operation;
 mod place;
+mod reduction;
 mod refusal;
+mod words;
 
 pub use boxed::Boxed;
+pub use element::{elem_op, scalar_op, un_op};
 pub use fault::Fault;
 pub use kind::{Kind, ParamType};
 pub use list::{Seq, Text};
 pub use operation::{BinOp, Join, UnOp};
 pub use place::Loc;
+pub use reduction::{join, unit};
 pub use refusal::{NoMemory, Refusal, Rule, Stop};
