@@ -1,7 +1,7 @@
 -- The operations on words, on exact numbers. Division, rest, sign of a rest and `>>` are Python's; two's complement is
 -- what Python and NumPy give `&`, `|`, `^` and `~`. That sums wrap at 64 bits is NumPy's rule for int64; that scalars wrap
 -- too, and what an operation gives at a count outside 0 to 63, are this project's own.
-use Rattle.std.specs.Prelude.{ℕ, zero, suc, ◌-◌, ◌/◌, ◌≤◌, ◌^◌, Bool, not, nat_lt, if◌then◌else◌, Option, Some, None, Result, Ok, Err, ℤ, pos, negsuc, ◌+ℤ◌, ◌-ℤ◌, ◌*ℤ◌, neg_ℤ, unsigned_abs, int_lt, int_le, FitsSigned}
+use Rattle.std.specs.Prelude.{◌≡◌, ◌⊎◌, ◌≤ℤ◌, ◌<ℤ◌, ℕ, zero, suc, ◌-◌, ◌/◌, ◌≤◌, ◌^◌, Bool, not, nat_lt, if◌then◌else◌, Option, Some, None, Result, Ok, Err, ℤ, pos, negsuc, ◌+ℤ◌, ◌-ℤ◌, ◌*ℤ◌, neg_ℤ, unsigned_abs, int_lt, int_le, FitsSigned}
 use Rattle.std.specs.Int.{w64, int_wrap, int_min, int_max, int_bit_and, int_bit_or, int_bit_xor, div_ceil}
 use Rattle.std.specs.Ordering.{int_eq}
 use Rattle.krn_base.specs.declared.fault.Fault.{Fault}
@@ -31,6 +31,10 @@ floor_div (negsuc a) (negsuc b) = pos (suc a / suc b)
 -- What that quotient leaves of a.
 abbrev pub floor_mod : ℤ → ℤ → ℤ
 floor_mod a b = a -ℤ (b *ℤ floor_div a b)
+
+-- What a division by b may leave: 0, or a number on b's side of 0 that is nearer to it.
+abbrev pub IsRest : ℤ → ℤ → Type 0
+IsRest b r = ((pos 0 ≤ℤ r) × (r <ℤ b)) ⊎ ((b <ℤ r) × (r ≤ℤ pos 0))
 
 -- A product of k numbers a, from 1.
 unfoldable pub power : ℤ → ℕ → ℤ
@@ -86,6 +90,14 @@ element_result Lt a b = truth (int_lt a b)
 element_result Le a b = truth (int_le a b)
 element_result Gt a b = truth (int_lt b a)
 element_result Ge a b = truth (int_le b a)
+
+-- `//` and `%`.
+abbrev pub IsDivision : BinOp → Type 0
+IsDivision op = (op ≡ FloorDiv) ⊎ (op ≡ Mod)
+
+-- `<<` and `>>`.
+abbrev pub IsShift : BinOp → Type 0
+IsShift op = (op ≡ Shl) ⊎ (op ≡ Shr)
 
 -- The fault of a scalar operation, which its right operand alone decides.
 abbrev pub fault_of : BinOp → ℤ → Option Fault

@@ -1,6 +1,6 @@
 // Operations on two words, and on one.
-ghost use Rattle.std.specs.Prelude.{◌≡◌, ◌≤◌};
-ghost use Rattle.krn_base.specs.Numbers.{element_result, scalar_result, unary_result, HasSmallExponent};
+ghost use Rattle.std.specs.Prelude.{◌≡◌, ◌↔◌, ◌⊎◌, pos, ◌<ℤ◌, IfOk, IfErr, IsErrOf};
+ghost use Rattle.krn_base.specs.Numbers.{element_result, scalar_result, unary_result, HasSmallExponent, IsDivision, IsShift};
 
 use crate::fault::Fault;
 use crate::operation::{BinOp, UnOp};
@@ -39,7 +39,11 @@ pub fn elem_op(op: BinOp, a: i64, b: i64) -> i64
 ///
 /// `ZeroDivisionError` exactly at `FloorDiv` and `Mod` by 0, `ValueError` exactly at a negative shift count.
 pub fn scalar_op(op: BinOp, a: i64, b: i64) -> Result<i64, Fault>
-    ensures { result ≡ scalar_result op a b }
+    ensures value { result ≡ scalar_result op a b }
+    ensures agrees { IfOk result (λ word. word ≡ element_result op a b) }
+    ensures zero_division { IsErrOf result Fault.ZeroDivisionError ↔ (IsDivision op × (b ≡ pos 0)) }
+    ensures negative_count { IsErrOf result Fault.ValueError ↔ (IsShift op × (b <ℤ pos 0)) }
+    ensures nothing_else { IfErr result (λ fault. (fault ≡ Fault.ZeroDivisionError) ⊎ (fault ≡ Fault.ValueError)) }
 {
     match op {
         BinOp::FloorDiv | BinOp::Mod if b == 0 => Err(Fault::ZeroDivisionError),
