@@ -1,6 +1,6 @@
 -- The laws of the seven reductions.
-use Rattle.std.proofs.Common.{◌≡◌, ℕ, ℤ, pos, negsuc, ◌+◌, ◌-◌, ◌*◌, ◌%◌, ◌^◌, ◌<◌, ◌+ℤ◌, ◌*ℤ◌, refl, sym, ap, ◌∙◌, arith, bit_and, bit_or, bit_xor, FitsSigned}
-use Rattle.std.specs.Int.{w64, cast_signed, cast_unsigned, int_bit_and, int_bit_or, int_bit_xor, int_max, int_min}
+use Rattle.std.proofs.Common.{◌≡◌, ℕ, ℤ, pos, negsuc, ◌-◌, ◌*◌, ◌^◌, ◌<◌, ◌+ℤ◌, ◌*ℤ◌, refl, sym, ap, ◌∙◌, arith, bit_and, bit_or, bit_xor}
+use Rattle.std.specs.Int.{w64, cast_signed, cast_unsigned}
 use Rattle.std.proofs.lemmas.Int.{ints, clamps, of_z-to_z, to_z-of_z, int_wrap_fits, SFits-int_wrap, int_wrap-add_left, int_wrap-add_right, int_wrap-mul_left, int_wrap-mul_right}
 use Rattle.std.proofs.lemmas.Nat.{or_lt, xor_lt, and_le_l, and_comm, or_comm, xor_comm, and_assoc, and_mask}
 use Rattle.std.specs.Int.Bits.{xor_assoc}
@@ -8,7 +8,7 @@ use Rattle.std.proofs.Math.IntN.{+ℤ_assoc, +ℤ_comm, +ℤ_idl, *ℤ_comm, *�
 use Rattle.std.proofs.Math.Nat.{mod-eq_of_lt}
 use borrow.Author.Differences.{same_in, product_is, up, down}
 use Rattle.krn_base.specs.BitLaws.{bits_fit, word_of_bits, or_assoc}
-use Rattle.krn_base.specs.Numbers.{IsWord, wrap, join_result, unit_of}
+use Rattle.krn_base.specs.Numbers.{wrap, join_result, unit_of}
 use Rattle.krn_base.specs.Reduce.{InRange, Associates, Exchanges, HasUnit}
 use Rattle.krn_base.specs.declared.operation.Join.TheVariants.{Sum, Prod, And, Or, Xor, Max, Min}
 
@@ -29,9 +29,19 @@ mul_assoc_ℤ : (a b c : ℤ) → (a *ℤ b) *ℤ c ≡ a *ℤ (b *ℤ c)
 mul_assoc_ℤ a b c =
     let p = product_is a b in
     let q = product_is b c in
-    same_in _ _ (omega (arith, product_is (a *ℤ b) c, product_is a (b *ℤ c),
-        ap (λ n. n * up c) p.0, ap (λ n. n * down c) p.0, ap (λ n. n * up c) p.1, ap (λ n. n * down c) p.1,
-        ap (λ n. up a * n) q.0, ap (λ n. down a * n) q.0, ap (λ n. up a * n) q.1, ap (λ n. down a * n) q.1))
+    same_in _ _ (omega (
+      arith,
+      product_is (a *ℤ b) c,
+      product_is a (b *ℤ c),
+      ap (λ n. n * up c) p.0,
+      ap (λ n. n * down c) p.0,
+      ap (λ n. n * up c) p.1,
+      ap (λ n. n * down c) p.1,
+      ap (λ n. up a * n) q.0,
+      ap (λ n. down a * n) q.0,
+      ap (λ n. up a * n) q.1,
+      ap (λ n. down a * n) q.1,
+    ))
 
 pub prod_in_range : InRange (join_result Prod)
 prod_in_range a b f g = SFits-int_wrap w64 (a *ℤ b)

@@ -10,16 +10,14 @@ pub fn wrap_laws()
     ensures in_range { (n : ℤ) → IsWord (wrap n) }
     ensures multiple { (n : ℤ) → (k : ℤ) × (n ≡ wrap n +ℤ (k *ℤ pos (2 ^ 64))) }
     ensures same { (n : ℤ) → IsWord n → wrap n ≡ n }
-{
-}
+{}
 
 /// `//` and `%` belong together, and the rest is on the divisor's side of 0. So the quotient is the floor of the exact one.
 pub fn division_laws()
     ensures whole { (a b : ℤ) → (floor_div a b *ℤ b) +ℤ floor_mod a b ≡ a }
     ensures rest { (a b : ℤ) → b ≢ pos 0 → IsRest b (floor_mod a b) }
     ensures words { (a b : ℤ) → IsWord a → IsWord b → b ≢ pos 0 → element_result BinOp.Add (element_result BinOp.Mul (element_result BinOp.FloorDiv a b) b) (element_result BinOp.Mod a b) ≡ a }
-{
-}
+{}
 
 /// `&`, `|`, `^` and `~` go bit by bit.
 pub fn bit_laws()
@@ -27,21 +25,18 @@ pub fn bit_laws()
     ensures or_bits { (a b : ℤ) (k : ℕ) → IsWord a → IsWord b → k < 64 → bit_of (element_result BinOp.Or a b) k ≡ max (bit_of a k) (bit_of b k) }
     ensures xor_bits { (a b : ℤ) (k : ℕ) → IsWord a → IsWord b → k < 64 → bit_of (element_result BinOp.Xor a b) k ≡ (bit_of a k + bit_of b k) % 2 }
     ensures inverse_bits { (a : ℤ) (k : ℕ) → bit_of (unary_result UnOp.Inv a) k ≡ 1 - bit_of a k }
-{
-}
+{}
 
 /// A power is as many wrapped products as its exponent says, from 1.
 pub fn power_laws()
     ensures none { (a : ℤ) → power a 0 ≡ pos 1 }
     ensures one_more { (a : ℤ) (k : ℕ) → power a (k + 1) ≡ power a k *ℤ a }
     ensures wrapped { (a : ℤ) (k : ℕ) → wrap (power a (k + 1)) ≡ wrap (wrap (power a k) *ℤ a) }
-{
-}
+{}
 
 /// Operations on words give words.
 pub fn range_laws()
     ensures element { (op : BinOp) (a b : ℤ) → IsWord a → IsWord b → IsWord (element_result op a b) }
     ensures unary { (op : UnOp) (a : ℤ) → IsWord a → IsWord (unary_result op a) }
     ensures join { (op : Join) (a b : ℤ) → IsWord a → IsWord b → IsWord (join_result op a b) }
-{
-}
+{}

@@ -15,6 +15,7 @@ pub trait Reduce {
     ghost UNIT: { ℤ };
     /// The word that the reduction begins with.
     const UNIT: i64;
+
     ghost joined: { ℤ → ℤ → ℤ };
 
     /// One step.
@@ -22,8 +23,11 @@ pub trait Reduce {
         ensures { result ≡ joined a b };
 
     ghost in_range: { InRange joined };
+
     ghost associates: { Associates joined };
+
     ghost exchanges: { Exchanges joined };
+
     ghost unit: { HasUnit joined UNIT };
 }
 
@@ -33,7 +37,9 @@ pub struct Sum;
 
 impl Reduce for Sum {
     ghost UNIT = { unit_of joins.Sum };
+
     const UNIT: i64 = 0;
+
     ghost joined = { join_result joins.Sum };
 
     fn join(a: i64, b: i64) -> i64 {
@@ -41,8 +47,11 @@ impl Reduce for Sum {
     }
 
     ghost in_range = { sum_in_range };
+
     ghost associates = { sum_associates };
+
     ghost exchanges = { sum_exchanges };
+
     ghost unit = { sum_unit };
 }
 
@@ -52,7 +61,9 @@ pub struct Prod;
 
 impl Reduce for Prod {
     ghost UNIT = { unit_of joins.Prod };
+
     const UNIT: i64 = 1;
+
     ghost joined = { join_result joins.Prod };
 
     fn join(a: i64, b: i64) -> i64 {
@@ -60,8 +71,11 @@ impl Reduce for Prod {
     }
 
     ghost in_range = { prod_in_range };
+
     ghost associates = { prod_associates };
+
     ghost exchanges = { prod_exchanges };
+
     ghost unit = { prod_unit };
 }
 
@@ -71,7 +85,9 @@ pub struct AndAll;
 
 impl Reduce for AndAll {
     ghost UNIT = { unit_of joins.And };
+
     const UNIT: i64 = -1;
+
     ghost joined = { join_result joins.And };
 
     fn join(a: i64, b: i64) -> i64 {
@@ -79,8 +95,11 @@ impl Reduce for AndAll {
     }
 
     ghost in_range = { and_in_range };
+
     ghost associates = { and_associates };
+
     ghost exchanges = { and_exchanges };
+
     ghost unit = { and_unit };
 }
 
@@ -90,7 +109,9 @@ pub struct OrAll;
 
 impl Reduce for OrAll {
     ghost UNIT = { unit_of joins.Or };
+
     const UNIT: i64 = 0;
+
     ghost joined = { join_result joins.Or };
 
     fn join(a: i64, b: i64) -> i64 {
@@ -98,8 +119,11 @@ impl Reduce for OrAll {
     }
 
     ghost in_range = { or_in_range };
+
     ghost associates = { or_associates };
+
     ghost exchanges = { or_exchanges };
+
     ghost unit = { or_unit };
 }
 
@@ -109,7 +133,9 @@ pub struct XorAll;
 
 impl Reduce for XorAll {
     ghost UNIT = { unit_of joins.Xor };
+
     const UNIT: i64 = 0;
+
     ghost joined = { join_result joins.Xor };
 
     fn join(a: i64, b: i64) -> i64 {
@@ -117,8 +143,11 @@ impl Reduce for XorAll {
     }
 
     ghost in_range = { xor_in_range };
+
     ghost associates = { xor_associates };
+
     ghost exchanges = { xor_exchanges };
+
     ghost unit = { xor_unit };
 }
 
@@ -128,7 +157,9 @@ pub struct MaxOf;
 
 impl Reduce for MaxOf {
     ghost UNIT = { unit_of joins.Max };
+
     const UNIT: i64 = i64::MIN;
+
     ghost joined = { join_result joins.Max };
 
     fn join(a: i64, b: i64) -> i64 {
@@ -136,8 +167,11 @@ impl Reduce for MaxOf {
     }
 
     ghost in_range = { max_in_range };
+
     ghost associates = { max_associates };
+
     ghost exchanges = { max_exchanges };
+
     ghost unit = { max_unit };
 }
 
@@ -147,7 +181,9 @@ pub struct MinOf;
 
 impl Reduce for MinOf {
     ghost UNIT = { unit_of joins.Min };
+
     const UNIT: i64 = i64::MAX;
+
     ghost joined = { join_result joins.Min };
 
     fn join(a: i64, b: i64) -> i64 {
@@ -155,8 +191,11 @@ impl Reduce for MinOf {
     }
 
     ghost in_range = { min_in_range };
+
     ghost associates = { min_associates };
+
     ghost exchanges = { min_exchanges };
+
     ghost unit = { min_unit };
 }
 
