@@ -23,3 +23,6 @@ pub use operation::{BinOp, Join, UnOp};
 pub use place::Loc;
 pub use reduction::{AndAll, MaxOf, MinOf, OrAll, Prod, Reduce, Sum, XorAll, join, unit};
 pub use refusal::{NoMemory, Refusal, Rule, Stop};
+
+#[cfg(test)]
+mod tests;
