@@ -470,30 +470,52 @@ static GE: Table = [
     [1, 1, 1, 1, 1, 1, 1, 1, 1, 1, 1],
 ];
 
+fn table(op: BinOp) -> &'static Table {
+    match op {
+        BinOp::Add => &ADD,
+        BinOp::Sub => &SUB,
+        BinOp::Mul => &MUL,
+        BinOp::FloorDiv => &FLOOR_DIV,
+        BinOp::Mod => &MOD,
+        BinOp::Shl => &SHL,
+        BinOp::Shr => &SHR,
+        BinOp::And => &AND,
+        BinOp::Or => &OR,
+        BinOp::Xor => &XOR,
+        BinOp::Min => &MIN,
+        BinOp::Max => &MAX,
+        BinOp::Eq => &EQ,
+        BinOp::Ne => &NE,
+        BinOp::Lt => &LT,
+        BinOp::Le => &LE,
+        BinOp::Gt => &GT,
+        BinOp::Ge => &GE,
+    }
+}
+
 #[test]
 fn elements_and_scalars(rt: HostRuntime) {
-    let tables = [
-        (BinOp::Add, &ADD),
-        (BinOp::Sub, &SUB),
-        (BinOp::Mul, &MUL),
-        (BinOp::FloorDiv, &FLOOR_DIV),
-        (BinOp::Mod, &MOD),
-        (BinOp::Shl, &SHL),
-        (BinOp::Shr, &SHR),
-        (BinOp::And, &AND),
-        (BinOp::Or, &OR),
-        (BinOp::Xor, &XOR),
-        (BinOp::Min, &MIN),
-        (BinOp::Max, &MAX),
-        (BinOp::Eq, &EQ),
-        (BinOp::Ne, &NE),
-        (BinOp::Lt, &LT),
-        (BinOp::Le, &LE),
-        (BinOp::Gt, &GT),
-        (BinOp::Ge, &GE),
-    ];
-    for (op, table) in tables {
-        for (a, row) in EDGES.iter().zip(table) {
+    for op in [
+        BinOp::Add,
+        BinOp::Sub,
+        BinOp::Mul,
+        BinOp::FloorDiv,
+        BinOp::Mod,
+        BinOp::Shl,
+        BinOp::Shr,
+        BinOp::And,
+        BinOp::Or,
+        BinOp::Xor,
+        BinOp::Min,
+        BinOp::Max,
+        BinOp::Eq,
+        BinOp::Ne,
+        BinOp::Lt,
+        BinOp::Le,
+        BinOp::Gt,
+        BinOp::Ge,
+    ] {
+        for (a, row) in EDGES.iter().zip(table(op)) {
             for (b, want) in EDGES.iter().zip(row) {
                 assert_eq!(rt; elem_op(op, *a, *b), *want, "{op:?} {a} {b}");
                 if let Ok(word) = scalar_op(op, *a, *b) {
@@ -572,23 +594,26 @@ fn unary(rt: HostRuntime) {
 
 #[test]
 fn reductions(rt: HostRuntime) {
-    let tables = [
-        (Join::Sum, 0, &ADD),
-        (Join::Prod, 1, &MUL),
-        (Join::And, -1, &AND),
-        (Join::Or, 0, &OR),
-        (Join::Xor, 0, &XOR),
-        (Join::Max, LOW, &MAX),
-        (Join::Min, TOP, &MIN),
-    ];
-    for (op, start, table) in tables {
+    for (op, start, element) in [
+        (Join::Sum, 0, BinOp::Add),
+        (Join::Prod, 1, BinOp::Mul),
+        (Join::And, -1, BinOp::And),
+        (Join::Or, 0, BinOp::Or),
+        (Join::Xor, 0, BinOp::Xor),
+        (Join::Max, LOW, BinOp::Max),
+        (Join::Min, TOP, BinOp::Min),
+    ] {
         assert_eq!(rt; unit(op), start, "{op:?}");
-        for (a, row) in EDGES.iter().zip(table) {
+        for (a, row) in EDGES.iter().zip(table(element)) {
             for (b, want) in EDGES.iter().zip(row) {
                 assert_eq!(rt; join(op, *a, *b), *want, "{op:?} {a} {b}");
             }
         }
     }
+}
+
+#[test]
+fn reduction_types(rt: HostRuntime) {
     for (start, want) in [
         (Sum::UNIT, 0),
         (Prod::UNIT, 1),
