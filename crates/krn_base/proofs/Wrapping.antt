@@ -57,7 +57,7 @@ div_ceil-suc a b h = by (cases_lt (suc (a % b)) b)
     by (inl l) = at (a / b) (suc (a % b)) l (omega (arith, div-add-mod' a b)) ∙ omega arith
     by (inr g) = at (suc (a / b)) 0 h (omega (arith, div-add-mod' a b, mod_below a b h)) ∙ omega arith
 
-not_negative : (n : ℕ) → int_lt (pos n) (pos 0) ≡ false
+pub not_negative : (n : ℕ) → int_lt (pos n) (pos 0) ≡ false
 not_negative n = grind (arith, ints)
 
 -- the sizes' quotient, rounded up and with the other sign, is the floor where the signs differ

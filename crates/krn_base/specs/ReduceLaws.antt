@@ -25,7 +25,7 @@ sum_exchanges a b f g = ap wrap (+ℤ_comm a b)
 pub sum_unit : HasUnit (join_result Sum) (unit_of Sum)
 sum_unit a f = ap wrap (+ℤ_idl a) ∙ int_wrap_fits w64 a f
 
-mul_assoc_ℤ : (a b c : ℤ) → (a *ℤ b) *ℤ c ≡ a *ℤ (b *ℤ c)
+pub mul_assoc_ℤ : (a b c : ℤ) → (a *ℤ b) *ℤ c ≡ a *ℤ (b *ℤ c)
 mul_assoc_ℤ a b c =
     let p = product_is a b in
     let q = product_is b c in

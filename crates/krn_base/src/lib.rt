@@ -17,7 +17,9 @@ pub use boxed::Boxed;
 pub use element::{elem_op, scalar_op, un_op};
 pub use fault::Fault;
 pub use kind::{Kind, ParamType};
-pub use laws::{bit_laws, division_laws, power_laws, range_laws, wrap_laws};
+pub use laws::{
+    bit_laws, division_laws, join_laws, power_laws, range_laws, reduce_laws, shift_laws, wrap_laws,
+};
 pub use list::{Seq, Text};
 pub use operation::{BinOp, Join, UnOp};
 pub use place::Loc;
