@@ -21,7 +21,7 @@ IsWord n = FitsSigned w64 n
 abbrev pub wrap : ℤ → ℤ
 wrap n = int_wrap w64 n
 
--- The floor of the exact quotient: between two numbers of one sign it is rounded down, between two signs away from 0.
+-- The floor of the exact quotient: where the signs differ it lies away from 0.
 abbrev pub floor_div : ℤ → ℤ → ℤ
 floor_div (pos a) (pos b) = pos (a / b)
 floor_div (pos a) (negsuc b) = neg_ℤ (pos (div_ceil a (suc b)))

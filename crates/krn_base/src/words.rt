@@ -42,7 +42,7 @@ pub(crate) fn wrapping_size(a: i64) -> i64
     word_of(a.unsigned_abs())
 }
 
-// Both signs are the same, or one number is 0.
+// Where the signs differ the floor is away from 0.
 pub(crate) fn floor_quotient(a: i64, b: i64) -> i64
     requires { b ≢ pos 0 }
     ensures { result ≡ wrap (floor_div a b) }
