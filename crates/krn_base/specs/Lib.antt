@@ -1,5 +1,9 @@
+pub mod BitLaws
+pub mod Bits
 pub mod Fault
 pub mod Lending
 pub mod Numbers
+pub mod Reduce
+pub mod ReduceLaws
 pub mod Rule
 pub mod formers

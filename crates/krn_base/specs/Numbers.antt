@@ -1,8 +1,9 @@
 -- The operations on words, on exact numbers. Division, rest, sign of a rest and `>>` are Python's; two's complement is
 -- what Python and NumPy give `&`, `|`, `^` and `~`. That sums wrap at 64 bits is NumPy's rule for int64; that scalars wrap
 -- too, and what an operation gives at a count outside 0 to 63, are this project's own.
-use Rattle.std.specs.Prelude.{ℕ, zero, suc, ◌+◌, ◌-◌, ◌/◌, ◌^◌, Bool, false, not, nat_eq, nat_lt, if◌then◌else◌, Option, Some, None, Result, Ok, Err, ℤ, pos, negsuc, ◌+ℤ◌, ◌-ℤ◌, ◌*ℤ◌, neg_ℤ, unsigned_abs, int_lt, int_le, FitsSigned}
+use Rattle.std.specs.Prelude.{◌≡◌, ◌⊎◌, ◌≤ℤ◌, ◌<ℤ◌, ℕ, zero, suc, ◌-◌, ◌/◌, ◌≤◌, ◌^◌, Bool, not, nat_lt, if◌then◌else◌, Option, Some, None, Result, Ok, Err, ℤ, pos, negsuc, ◌+ℤ◌, ◌-ℤ◌, ◌*ℤ◌, neg_ℤ, unsigned_abs, int_lt, int_le, FitsSigned}
 use Rattle.std.specs.Int.{w64, int_wrap, int_min, int_max, int_bit_and, int_bit_or, int_bit_xor, div_ceil}
+use Rattle.std.specs.Ordering.{int_eq}
 use Rattle.krn_base.specs.declared.fault.Fault.{Fault}
 use Rattle.krn_base.specs.declared.fault.Fault.TheVariants.{ValueError, ZeroDivisionError}
 use Rattle.krn_base.specs.declared.operation.BinOp.{BinOp}
@@ -20,7 +21,7 @@ IsWord n = FitsSigned w64 n
 abbrev pub wrap : ℤ → ℤ
 wrap n = int_wrap w64 n
 
--- The floor of the exact quotient: between two numbers of one sign it is rounded down, between two signs away from 0.
+-- The floor of the exact quotient: where the signs differ it lies away from 0.
 abbrev pub floor_div : ℤ → ℤ → ℤ
 floor_div (pos a) (pos b) = pos (a / b)
 floor_div (pos a) (negsuc b) = neg_ℤ (pos (div_ceil a (suc b)))
@@ -30,6 +31,10 @@ floor_div (negsuc a) (negsuc b) = pos (suc a / suc b)
 -- What that quotient leaves of a.
 abbrev pub floor_mod : ℤ → ℤ → ℤ
 floor_mod a b = a -ℤ (b *ℤ floor_div a b)
+
+-- What a division by b may leave: 0, or a number on b's side of 0 that is nearer to it.
+abbrev pub IsRest : ℤ → ℤ → Type 0
+IsRest b r = ((pos 0 ≤ℤ r) × (r <ℤ b)) ⊎ ((b <ℤ r) × (r ≤ℤ pos 0))
 
 -- A product of k numbers a, from 1.
 unfoldable pub power : ℤ → ℕ → ℤ
@@ -41,8 +46,7 @@ abbrev pub truth : Bool → ℤ
 truth b = if b then pos 1 else pos 0
 
 abbrev pub is_zero : ℤ → Bool
-is_zero (pos n) = nat_eq n 0
-is_zero (negsuc n) = false
+is_zero n = int_eq n (pos 0)
 
 abbrev pub or_zero : ℤ → ℤ → ℤ
 or_zero b quotient = if is_zero b then pos 0 else quotient
@@ -80,12 +84,20 @@ element_result Or a b = int_bit_or w64 a b
 element_result Xor a b = int_bit_xor w64 a b
 element_result Min a b = int_min a b
 element_result Max a b = int_max a b
-element_result Eq a b = truth (is_zero (a -ℤ b))
-element_result Ne a b = truth (not (is_zero (a -ℤ b)))
+element_result Eq a b = truth (int_eq a b)
+element_result Ne a b = truth (not (int_eq a b))
 element_result Lt a b = truth (int_lt a b)
 element_result Le a b = truth (int_le a b)
 element_result Gt a b = truth (int_lt b a)
 element_result Ge a b = truth (int_le b a)
+
+-- `//` and `%`.
+abbrev pub IsDivision : BinOp → Type 0
+IsDivision op = (op ≡ FloorDiv) ⊎ (op ≡ Mod)
+
+-- `<<` and `>>`.
+abbrev pub IsShift : BinOp → Type 0
+IsShift op = (op ≡ Shl) ⊎ (op ≡ Shr)
 
 -- The fault of a scalar operation, which its right operand alone decides.
 abbrev pub fault_of : BinOp → ℤ → Option Fault
@@ -102,6 +114,11 @@ unless_fault (Some fault) n = Err fault
 
 abbrev pub scalar_result : BinOp → ℤ → ℤ → Result ℤ Fault
 scalar_result op a b = unless_fault (fault_of op b) (element_result op a b)
+
+-- What a power is asked for: an exponent from 0 to 62.
+abbrev pub HasSmallExponent : UnOp → Type 0
+HasSmallExponent (Pow k) = k ≤ 62
+HasSmallExponent _ = Unit {0}
 
 -- What an operation gives for one word.
 abbrev pub unary_result : UnOp → ℤ → ℤ
