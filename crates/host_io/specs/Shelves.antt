@@ -1,5 +1,6 @@
 -- Files in memory (this project).
-use Rattle.std.specs.Prelude.{ℕ, max, Bool, true, false, List, [], ◌∷◌, map, if◌then◌else◌, vec_len}
+use Rattle.std.specs.Prelude.{ℕ, max, Bool, true, false, not, ◌&&◌, List, [], ◌∷◌, map, if◌then◌else◌, vec_len}
+use Rattle.std.specs.List.{list_any}
 use Rattle.std.specs.Str.{bytes_eq}
 use Rattle.host_io.specs.declared.shelf.Shelf.{Shelf}
 use Rattle.host_io.specs.declared.slot.Slot.{Slot}
@@ -22,6 +23,15 @@ shelf_file shelf = record { name = shelf.name; bytes = shelf.bytes.items; there 
 
 abbrev pub slot_files : List Slot → List File
 slot_files slots = map slot_file slots
+
+-- the slots' names, in order
+abbrev pub slot_names : List Slot → List (List ℕ)
+slot_names slots = map (λ slot. slot.name) slots
+
+-- whether no name stands twice
+abbrev pub are_distinct : List (List ℕ) → Bool
+are_distinct [] = true
+are_distinct (name ∷ rest) = not (list_any (bytes_eq name) rest) && are_distinct rest
 
 abbrev pub shelf_files : List Shelf → List File
 shelf_files shelves = map shelf_file shelves

@@ -1,4 +1,4 @@
-ghost use Rattle.std.specs.Prelude.{◌≡◌, ◌+◌, ◌<◌, ◌≤◌, false, length, take, map, vec_capacity, IfOk, OnOk, OnErr, IsErrOf, MatchOption};
+ghost use Rattle.std.specs.Prelude.{◌≡◌, ◌+◌, ◌<◌, ◌≤◌, false, length, take, min, vec_capacity, IfOk, OnOk, OnErr, IsErrOf, MatchOption};
 ghost use Rattle.host_io.specs.Files.{Missing, Bytes, has_failed};
 ghost use Rattle.host_io.specs.Shelves.{held_in, slot_file, shelf_file, slot_files, shelf_files};
 
@@ -72,7 +72,7 @@ pub fn load_bytes(bytes: &[u8], most: usize, into: &mut Vec<u8>) -> Result<(), L
         (most < length bytes.now) × (into.new.items ≡ take (most + 1) bytes.now) }
     ensures told { has_failed result ≡ false }
     ensures memory { IsErrOf result LoadFault.Memory →
-        vec_capacity into.old < length (take (most + 1) bytes.now) }
+        vec_capacity into.old < min (length bytes.now) (most + 1) }
 {
     if bytes.len() <= most {
         replace(bytes, into)?;
