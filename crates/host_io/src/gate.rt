@@ -11,3 +11,10 @@ pub struct OpenGate;
 impl Gate for OpenGate {
     fn piece(&self, _number: u32) {}
 }
+
+fn share<G: Sync>(_gate: &G) {}
+
+// Threads may share an open gate.
+fn gates_are_shared(gate: &OpenGate) {
+    share(gate);
+}

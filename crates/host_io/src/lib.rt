@@ -13,8 +13,6 @@ mod shelf;
 mod shelves;
 mod sink;
 mod slot;
-#[cfg(test)]
-mod tests;
 
 pub use files::{Files, LoadFault};
 pub use gate::{Gate, OpenGate};

@@ -103,3 +103,6 @@ impl Files for MemFiles {
         }
     }
 }
+
+#[cfg(test)]
+mod tests;

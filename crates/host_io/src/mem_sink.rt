@@ -91,3 +91,6 @@ impl Sink for MemSink {
         Err(PutFault::Failed)
     }
 }
+
+#[cfg(test)]
+mod tests;

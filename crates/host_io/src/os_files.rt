@@ -87,3 +87,43 @@ impl<'a, R: rt::Files> Files for OsFiles<'a, R> {
         }
     }
 }
+
+#[cfg(test)]
+mod tests {
+    use super::*;
+    use std::path::PathBuf;
+    use std::test::Fail;
+    use std::{env, process};
+
+    // A path that no other test uses.
+    fn make_path(rt: &HostRuntime) -> Result<PathBuf, Fail> {
+        let name = format!(in rt.alloc(); "host_io_files_{}", process::id(rt.process()))?;
+        Ok(env::temp_dir(rt)?.join(rt.alloc(), name.as_str())?)
+    }
+
+    // A folder opens and can't be read.
+    #[test]
+    fn loads_real_files(rt: HostRuntime) -> Result<(), Fail> {
+        let path = make_path(&rt)?;
+        let text = "three words\n";
+        fs::write(&rt, path.as_str(), text)?;
+        let cases = [
+            (path.as_str(), 100, Ok(()), text, 0),
+            (path.as_str(), 12, Ok(()), text, 0),
+            (path.as_str(), 11, Err(LoadFault::TooLong), text, 0),
+            (path.as_str(), 4, Err(LoadFault::TooLong), "three", 0),
+            ("host_io/missing", 100, Err(LoadFault::Failed), "", 1),
+            ("/", 100, Err(LoadFault::Failed), "", 2),
+        ];
+        let mut files = OsFiles::new(&rt);
+        let mut into = Vec::new(rt.alloc());
+        for (name, most, answer, bytes, faults) in cases {
+            let is_right = files.load(name, most, &mut into) == answer
+                && into.as_slice() == bytes.as_bytes()
+                && files.faults == faults;
+            assert!(rt; is_right, "{name} up to {most}");
+        }
+        fs::remove_file(&rt, path.as_str())?;
+        Ok(())
+    }
+}

@@ -66,3 +66,38 @@ impl<W: Write> Sink for OsSink<W> {
         write_out(&mut self.stream, bytes, &mut self.faults)
     }
 }
+
+#[cfg(test)]
+mod tests {
+    use super::*;
+    use std::path::PathBuf;
+    use std::test::Fail;
+    use std::{env, fs, process};
+
+    // A path that no other test uses.
+    fn make_path(rt: &HostRuntime) -> Result<PathBuf, Fail> {
+        let name = format!(in rt.alloc(); "host_io_sink_{}", process::id(rt.process()))?;
+        Ok(env::temp_dir(rt)?.join(rt.alloc(), name.as_str())?)
+    }
+
+    // A file that is open for reading alone takes no bytes.
+    #[test]
+    fn writes_to_real_streams(rt: HostRuntime) -> Result<(), Fail> {
+        let path = make_path(&rt)?;
+        let mut file = OsSink::new(fs::create(&rt, path.as_str())?);
+        let mut out = OsSink::new(rt.stdout());
+        for piece in ["", "two ", "pieces\n"] {
+            assert!(rt; file.put(piece.as_bytes()).is_ok() && out.put(piece.as_bytes()).is_ok());
+        }
+        let text = fs::read_to_string(&rt, path.as_str())?;
+        assert_eq!(rt; text.as_str(), "two pieces\n");
+        assert!(rt; file.faults == 0 && out.faults == 0);
+
+        let mut closed = OsSink::new(fs::open(&rt, path.as_str())?);
+        for faults in [1, 2] {
+            assert!(rt; closed.put(b"more").is_err() && closed.faults == faults);
+        }
+        fs::remove_file(&rt, path.as_str())?;
+        Ok(())
+    }
+}
