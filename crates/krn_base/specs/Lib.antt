@@ -1,4 +1,5 @@
 pub mod Fault
 pub mod Lending
+pub mod Numbers
 pub mod Rule
 pub mod formers
