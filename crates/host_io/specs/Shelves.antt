@@ -1,5 +1,5 @@
 -- Files in memory (this project).
-use Rattle.std.specs.Prelude.{ℕ, max, Bool, true, false, not, ◌&&◌, List, [], ◌∷◌, map, if◌then◌else◌, vec_len}
+use Rattle.std.specs.Prelude.{ℕ, max, Bool, true, not, ◌&&◌, List, [], ◌∷◌, map, if◌then◌else◌, vec_len}
 use Rattle.std.specs.List.{list_any}
 use Rattle.std.specs.Str.{bytes_eq}
 use Rattle.host_io.specs.declared.shelf.Shelf.{Shelf}

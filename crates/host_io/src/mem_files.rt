@@ -76,12 +76,16 @@ impl Files for MemFiles {
         ensures past { IsErrOf result LoadFault.TooLong → length into.new.items ≡ most + 1 }
         ensures long { (file : List ℕ) → mem_held self.old name.now ≡ Bytes file → most < length file →
             IsErr result }
+
         // Which calls fail, and where memory can be wanting.
         ensures fails { has_failed result ≡ (is_to_fail self.old.fails.items self.old.calls
             || is_missing (mem_held self.old name.now)) }
-        ensures memory { IsErrOf result LoadFault.Memory → vec_capacity into.old < copied_len (mem_held self.old name.now) most }
+        ensures memory { IsErrOf result LoadFault.Memory →
+            vec_capacity into.old < copied_len (mem_held self.old name.now) most }
+
         // What is counted, and what stays.
-        ensures faults { self.new.faults ≡ (if has_failed result then raised self.old.faults else self.old.faults) }
+        ensures faults { self.new.faults ≡
+            (if has_failed result then raised self.old.faults else self.old.faults) }
         ensures calls { self.new.calls ≡ raised self.old.calls }
         ensures same_files { shelf_files self.new.shelves.items ≡ shelf_files self.old.shelves.items }
         ensures same_fails { self.new.fails.items ≡ self.old.fails.items }

@@ -48,7 +48,8 @@ impl MemSink {
     // Appends as many of the bytes as fit, and says whether they all did.
     fn append(&mut self, bytes: &[u8]) -> bool
         ensures whole { result ≡ nat_le (vec_len self.old.bytes + length bytes.now) self.old.room }
-        ensures bytes { self.new.bytes.items ≡ self.old.bytes.items ++ take (self.old.room - vec_len self.old.bytes) bytes.now }
+        ensures bytes { self.new.bytes.items ≡ self.old.bytes.items
+            ++ take (self.old.room - vec_len self.old.bytes) bytes.now }
         ensures room { self.new.room ≡ self.old.room }
         ensures fails { self.new.fails.items ≡ self.old.fails.items }
         ensures calls { self.new.calls ≡ self.old.calls }
@@ -70,14 +71,22 @@ impl Sink for MemSink {
     /// the room left, of which as many bytes are written as fit. Takes no memory.
     fn put(&mut self, bytes: &[u8]) -> Result<(), PutFault>
         ensures count { self.old.faults ≤ self.new.faults }
-        ensures ok { OnOk result (Some self.new.bytes.items ≡ appended (Some self.old.bytes.items) bytes.now) }
+        ensures ok { OnOk result
+            (Some self.new.bytes.items ≡ appended (Some self.old.bytes.items) bytes.now) }
         ensures failed { OnErr result (Rose self.old.faults self.new.faults) }
-        ensures part { OnErr result ((n : ℕ) × (Some self.new.bytes.items ≡ appended (Some self.old.bytes.items) (take n bytes.now))) }
+        ensures part { OnErr result ((n : ℕ) ×
+            (Some self.new.bytes.items ≡ appended (Some self.old.bytes.items) (take n bytes.now))) }
+
         // Which calls fail, and what is written then.
-        ensures fails { is_err result ≡ (is_to_fail self.old.fails.items self.old.calls || nat_lt self.old.room (vec_len self.old.bytes + length bytes.now)) }
-        ensures bytes { self.new.bytes.items ≡ self.old.bytes.items ++ (if is_to_fail self.old.fails.items self.old.calls then [] else take (self.old.room - vec_len self.old.bytes) bytes.now) }
+        ensures fails { is_err result ≡ (is_to_fail self.old.fails.items self.old.calls
+            || nat_lt self.old.room (vec_len self.old.bytes + length bytes.now)) }
+        ensures bytes { self.new.bytes.items ≡ self.old.bytes.items
+            ++ (if is_to_fail self.old.fails.items self.old.calls then []
+            else take (self.old.room - vec_len self.old.bytes) bytes.now) }
+
         // What is counted, and what stays.
-        ensures faults { self.new.faults ≡ (if is_err result then raised self.old.faults else self.old.faults) }
+        ensures faults { self.new.faults ≡
+            (if is_err result then raised self.old.faults else self.old.faults) }
         ensures calls { self.new.calls ≡ raised self.old.calls }
         ensures same_room { self.new.room ≡ self.old.room }
         ensures same_fails { self.new.fails.items ≡ self.old.fails.items }
