@@ -1,0 +1,24 @@
+//! The program's view of the outside: files to load, sinks to put bytes into and the gate that pieces pass,
+//! as traits with their contracts, over memory and over the system.
+#![tactic(auto)]
+
+mod counts;
+mod files;
+mod gate;
+mod mem_files;
+mod mem_sink;
+mod os_files;
+mod os_sink;
+mod shelf;
+mod shelves;
+mod sink;
+mod slot;
+
+pub use files::{Files, LoadFault};
+pub use gate::{Gate, OpenGate};
+pub use mem_files::MemFiles;
+pub use mem_sink::MemSink;
+pub use os_files::OsFiles;
+pub use os_sink::OsSink;
+pub use sink::{PutFault, Sink};
+pub use slot::Slot;
