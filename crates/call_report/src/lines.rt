@@ -1,4 +1,5 @@
 ghost use Rattle.std.specs.Prelude.{◌≡◌, ◌++◌, OnOk, codes, map};
+ghost use Rattle.std.specs.Fmt.{decimal};
 ghost use Rattle.std.specs.List.{zip};
 ghost use Rattle.call_report.specs.Report.{value_text, return_line, fault_line, ending_lines, buffer_line, counts_line, counts_lines, lines_text};
 
@@ -103,17 +104,20 @@ pub fn append_buffers(
     Ok(())
 }
 
+fn append_count(alloc: Global, out: &mut Vec<u8>, name: &[u8], count: u64) -> Result<(), NoMemory>
+    ensures { OnOk result (out.new.items ≡ out.old.items ++ (name.now ++ decimal count)) }
+{
+    append_bytes(out, name)?;
+    append_number(alloc, out, count)
+}
+
 fn append_counts_line(alloc: Global, out: &mut Vec<u8>, counts: &Counts) -> Result<(), NoMemory>
     ensures { OnOk result (out.new.items ≡ out.old.items ++ (counts_line counts.now ++ codes "\n")) }
 {
-    append_bytes(out, b"counts nests ")?;
-    append_number(alloc, out, counts.nests)?;
-    append_bytes(out, b" temps ")?;
-    append_number(alloc, out, counts.temps)?;
-    append_bytes(out, b" parallel ")?;
-    append_number(alloc, out, counts.parallel)?;
-    append_bytes(out, b" serial ")?;
-    append_number(alloc, out, counts.serial)?;
+    append_count(alloc, out, b"counts nests ", counts.nests)?;
+    append_count(alloc, out, b" temps ", counts.temps)?;
+    append_count(alloc, out, b" parallel ", counts.parallel)?;
+    append_count(alloc, out, b" serial ", counts.serial)?;
     append_bytes(out, b"\n")
 }
 
