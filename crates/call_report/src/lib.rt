@@ -8,3 +8,6 @@ mod text;
 
 pub use head::BufferHead;
 pub use text::report;
+
+#[cfg(test)]
+mod tests;
