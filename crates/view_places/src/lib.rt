@@ -1,6 +1,19 @@
-//! Shapes, and strided views of one buffer as lists of places.
+//! Shapes, and strided views of one buffer as lists of places. No call takes memory.
 #![tactic(auto)]
 
+mod aligned;
+mod axes;
 mod shape;
+mod slice;
+mod spread;
+mod spread_calls;
+mod strided;
+mod view;
+mod view_calls;
+mod walk;
 
+pub use aligned::broadcast;
 pub use shape::{Array, Index, Shape};
+pub use slice::Slice;
+pub use spread::Spread;
+pub use view::View;
