@@ -5,7 +5,7 @@ use crate::slice::Slice;
 use crate::spread::Spread;
 use crate::strided::Strided;
 use crate::view::View;
-use crate::walk::{Walk, walk};
+use crate::walk::{Walk, slice_walk};
 use krn_base::Fault;
 
 /// How far a number of steps of a stride leads.
@@ -110,7 +110,7 @@ impl View {
         ensures { MatchResult result (λ v. (picks : List ℕ) × (slice_indices (slice_index (extents self.now) axis) s ≡ Some picks) × IsViewOf self.now v (slice_set (extents self.now) axis (length picks)) (sliced 0 axis picks (extents self.now) (places self.now))) (λ fault. (fault ≡ Fault.ValueError) × (slice_indices (slice_index (extents self.now) axis) s ≡ None)) }
     {
         let at = usize::from(axis);
-        let Some(Walk { start, step, count }) = walk(self.extent[at], &s) else {
+        let Some(Walk { start, step, count }) = slice_walk(self.extent[at], &s) else {
             return Err(Fault::ValueError);
         };
         let mut extent = self.extent;

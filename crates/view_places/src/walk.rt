@@ -34,7 +34,7 @@ fn steps_in(distance: u32, length: u64) -> u32 {
 }
 
 /// What a slice counts out of a dimension with n entries; None at step 0.
-pub fn walk(n: u32, s: &Slice) -> Option<Walk> {
+pub fn slice_walk(n: u32, s: &Slice) -> Option<Walk> {
     let step = s.step.unwrap_or(1);
     if step == 0 {
         return None;
