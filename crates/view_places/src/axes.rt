@@ -1,6 +1,6 @@
 //! Lists of four entries, one for each dimension that an array may have.
-ghost use Rattle.std.specs.Prelude.{◌≡◌, ◌<◌, ◌≤◌, ◌++◌, ◌∷◌, [], take, drop, replicate, remove, reverse, pos, IsTrue, ◌↔◌};
-ghost use Rattle.view_places.specs.Arrays.{element_count};
+ghost use Rattle.std.specs.Prelude.{◌≡◌, ◌<◌, ◌≤◌, ◌*◌, ◌^◌, ◌++◌, ◌∷◌, [], take, drop, replicate, remove, reverse, pos, IsTrue, ◌↔◌};
+ghost use Rattle.view_places.specs.Arrays.{element_count, is_small as is_small_shape};
 ghost use Rattle.view_places.specs.Strides.{weights};
 
 /// The entries without the one of a dimension, and `last` behind them.
@@ -30,7 +30,7 @@ pub fn reversed<T: Copy>(xs: &[T; 4], rank: u8) -> [T; 4]
 }
 
 /// The strides behind as many zeros as dimensions are missing.
-pub fn shifted(stride: &[i128; 4], missing: u8) -> [i128; 4]
+pub fn shifted(stride: &[i64; 4], missing: u8) -> [i64; 4]
     requires { missing ≤ 4 }
     ensures { result ≡ take 4 (replicate missing (pos 0) ++ stride.now) }
 {
@@ -47,17 +47,43 @@ pub fn shifted(stride: &[i128; 4], missing: u8) -> [i128; 4]
 pub fn widened(stride: &[i64; 4]) -> [i128; 4]
     ensures { result ≡ stride.now }
 {
+    let [first, second, third, fourth] = *stride;
     [
-        i128::from(stride[0]),
-        i128::from(stride[1]),
-        i128::from(stride[2]),
-        i128::from(stride[3]),
+        i128::from(first),
+        i128::from(second),
+        i128::from(third),
+        i128::from(fourth),
     ]
 }
 
-/// Whether an array of these extents has no element.
-pub fn has_no_element(extent: &[u32; 4]) -> bool
-    ensures { IsTrue result ↔ (element_count extent.now ≡ 0) }
+/// The product of three extents.
+fn product(a: u32, b: u32, c: u32) -> u128
+    ensures value { result ≡ a * b * c }
+    ensures bound { result < 2 ^ 96 }
 {
-    extent[0] == 0 || extent[1] == 0 || extent[2] == 0 || extent[3] == 0
+    u128::from(a) * u128::from(b) * u128::from(c)
+}
+
+/// How many elements an array of these extents has.
+pub fn element_count_of(extent: &[u32; 4]) -> u128
+    ensures { result ≡ element_count extent.now }
+{
+    u128::from(extent[0]) * product(extent[1], extent[2], extent[3])
+}
+
+/// The strides of a whole buffer: how many elements an index of the dimensions behind may have.
+pub fn row_major(extent: &[u32; 4]) -> [i128; 4]
+    ensures { result ≡ weights extent.now }
+{
+    let second = product(extent[1], extent[2], extent[3]) as i128;
+    let third = product(1, extent[2], extent[3]) as i128;
+    let fourth = product(1, 1, extent[3]) as i128;
+    [second, third, fourth, 1]
+}
+
+/// Whether each extent and the number of elements are at most 2^22.
+pub fn is_small(extent: &[u32; 4]) -> bool
+    ensures { result ≡ is_small_shape extent.now }
+{
+    extent.iter().all(|n| *n <= 1 << 22) && element_count_of(extent) <= 1 << 22
 }

@@ -3,10 +3,13 @@
 
 mod aligned;
 mod axes;
+mod counting;
+mod parts;
 mod shape;
 mod slice;
 mod spread;
 mod spread_calls;
+mod steps;
 mod strided;
 mod view;
 mod view_calls;

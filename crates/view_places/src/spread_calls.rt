@@ -1,6 +1,6 @@
 use crate::shape::{Index, Shape};
 use crate::spread::Spread;
-use crate::view_calls::place_of;
+use crate::steps;
 
 impl Spread {
     ghost use Rattle.std.specs.Prelude.{◌≡◌, ◌<◌, take, IsTrue};
@@ -26,6 +26,6 @@ impl Spread {
         ensures entry { result ≡ entry 0 (extents self.now) (places self.now) (take self.now.rank at.now) }
         ensures within { result < self.now.length }
     {
-        place_of(self.offset, &self.stride, at)
+        steps::led(self.offset, &self.stride, at) as u32
     }
 }

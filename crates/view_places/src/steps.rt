@@ -1,0 +1,50 @@
+//! Numbers of steps along strides, in numbers wide enough for them.
+ghost use Rattle.std.specs.Prelude.{◌≢◌, ◌==◌, if◌then◌else◌, ◌≡◌, ◌<◌, ◌≤◌, ◌*◌, ◌^◌, ◌*ℤ◌, pos, unsigned_abs, take, replicate, drop, length, option_map};
+ghost use Rattle.view_places.specs.Arrays.{position_of as position};
+ghost use Rattle.view_places.specs.Strides.{led_to};
+
+use crate::shape::Index;
+
+/// How far a number of steps of a stride leads.
+pub fn led_by(stride: i64, steps: i64) -> i128
+    ensures value { result ≡ stride *ℤ steps }
+    ensures bound { unsigned_abs result ≤ 2 ^ 63 * unsigned_abs steps }
+{
+    i128::from(stride) * i128::from(steps)
+}
+
+/// Where an index leads.
+pub fn led(offset: i64, stride: &[i64; 4], at: &Index) -> i128
+    ensures { result ≡ led_to offset stride.now at.now }
+{
+    let first = led_by(stride[0], i64::from(at[0]));
+    let second = led_by(stride[1], i64::from(at[1]));
+    let third = led_by(stride[2], i64::from(at[2]));
+    let fourth = led_by(stride[3], i64::from(at[3]));
+    i128::from(offset) + (first + (second + (third + fourth)))
+}
+
+/// Which entry of a dimension a subscript names.
+pub fn position_of(n: u32, i: i64) -> Option<u32>
+    ensures { result ≡ position n i }
+{
+    if i >= 0 {
+        if i < i64::from(n) {
+            Some(i as u32)
+        } else {
+            None
+        }
+    } else if -(i64::from(n)) <= i {
+        Some((i + i64::from(n)) as u32)
+    } else {
+        None
+    }
+}
+
+/// The stride of a dimension, 0 along extent 1.
+pub fn settled_stride(extent: u32, stride: i128) -> i64
+    requires { extent ≢ 1 → unsigned_abs stride < 2 ^ 32 }
+    ensures { result ≡ (if extent == 1 then pos 0 else stride) }
+{
+    if extent == 1 { 0 } else { stride as i64 }
+}
