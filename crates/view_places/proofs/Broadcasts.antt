@@ -1,10 +1,10 @@
 -- The broadcast of two shapes, dimension by dimension.
-use Rattle.std.proofs.Common.{◌≡◌, ◌≢◌, ℕ, zero, suc, ◌+◌, ◌-◌, ◌<◌, ◌≤◌, max, List, [], ◌∷◌, ◌++◌, map, filter, length, get_or, set, take, drop, replicate, reverse, refl, sym, ap, subst, ◌∙◌, arith, Bool, true, false, eqb, cond, not, ◌&&◌, inl, inr, ◌⊎◌, IsTrue, Ok, Err, Result, zero-add}
+use Rattle.std.proofs.Common.{◌≡◌, ◌≢◌, ℕ, zero, suc, ◌+◌, ◌-◌, ◌<◌, ◌≤◌, max, List, [], ◌∷◌, ◌++◌, map, filter, length, get_or, set, take, drop, replicate, reverse, refl, sym, ap, subst, ◌∙◌, arith, Bool, true, false, eqb, cond, not, ◌&&◌, inl, inr, ◌⊎◌, IsTrue, Ok, Err, Result, zero-add, ap₂, eq-eqb, ne_eqb, ⊎_elim, Option, Some, None}
 use Rattle.std.specs.List.{list_all, range_with_len}
 use borrow.Author.Tests.{eqb-true, eqb-false}
-use Rattle.std.proofs.lemmas.List.{get_or-map, get_or-reverse, length-reverse, length-map, length-take-le, length-drop, get_or-drop, take_more, map_push, set_at, get_or_default, take_all}
+use Rattle.std.proofs.lemmas.List.{get_or-map, get_or-reverse, length-reverse, length-map, length-take-le, length-drop, get_or-drop, take_more, map_push, set_at, get_or_default, get_or-take, get_or_past}
 use Rattle.std.proofs.lemmas.List.FromFn.{get_or-range_with_len, length-range_with_len}
-use Rattle.view_places.specs.Alignment.{Fits, FitsTo}
+use Rattle.view_places.specs.Alignment.{Fits, FitsTo, pair_extent, all_fit}
 use Rattle.view_places.specs.Arrays.{extent_back, proper_extents, all_same, greatest_rank, dimensions, joined_shape, broadcast_of, is_small}
 use Rattle.krn_base.specs.declared.fault.Fault.{Fault}
 use Rattle.krn_base.specs.declared.fault.Fault.TheVariants.{ValueError, SizeLimit}
@@ -91,3 +91,46 @@ ok-joined shapes ms e = by_tests (list_all (λ k. all_same (proper_extents k sha
     by_tests true p true q h = let same : joined_shape shapes ≡ ms = cc in (same, subst (λ (xs : List ℕ). is_small xs ≡ true) same q)
     by_tests true p false q h = cc
     by_tests false p b q h = cc
+
+-- ---- one dimension
+pub back-inside : (rank back i : ℕ) (extent : List ℕ) → length extent ≡ 4 → rank ≤ 4 → back < rank → i ≡ rank - 1 - back → get_or extent i 0 ≡ extent_back back (take rank extent)
+back-inside rank back i extent four few h e =
+    let long : length (take rank extent) ≡ rank = length-take-le rank extent (omega arith) in
+    let same : length (take rank extent) - 1 - back ≡ i = omega arith in
+    sym
+    (get_or-reverse (take rank extent) back 1 (omega arith) ∙ ap (λ (k : ℕ). get_or (take rank extent) k 1) same ∙ get_or-take rank extent i 1 (omega arith) ∙ get_or_default extent i 1 0 (omega arith))
+
+pub back-missing : (rank back : ℕ) (extent : List ℕ) → length extent ≡ 4 → rank ≤ 4 → rank ≤ back → 1 ≡ extent_back back (take rank extent)
+back-missing rank back extent four few h =
+    let long : length (take rank extent) ≡ rank = length-take-le rank extent (omega arith) in
+    sym (get_or_past (reverse (take rank extent)) back 1 (omega (arith, length-reverse (take rank extent))))
+
+-- the extents other than 1 of two, where it is known which are
+abbrev others : ℕ → ℕ → Bool → Bool → List ℕ
+others a b x y = cond (not x) (a ∷ cond (not y) (b ∷ []) []) (cond (not y) (b ∷ []) [])
+
+abbrev of_others : List ℕ → Option ℕ
+of_others xs = cond (all_same xs) (Some (get_or xs 0 1)) None
+
+pair-is : (a b : ℕ) (x y : Bool) → eqb a 1 ≡ x → eqb b 1 ≡ y → pair_extent a b ≡ of_others (others a b x y)
+pair-is a b x y e f = ap₂ (λ (s t : Bool). of_others (others a b s t)) e f
+
+pub pair-first : (a b : ℕ) → a ≡ 1 → Some b ≡ pair_extent a b
+pair-first a b h = by_test (eqb b 1) refl
+  where
+    by_test : (y : Bool) → eqb b 1 ≡ y → Some b ≡ pair_extent a b
+    by_test true f = ap Some (eqb-true b 1 f) ∙ sym (pair-is a b true true (eq-eqb a 1 h) f)
+    by_test false f = sym (pair-is a b true false (eq-eqb a 1 h) f)
+
+pub pair-second : (a b : ℕ) → a ≢ 1 → (b ≡ 1) ⊎ (a ≡ b) → Some a ≡ pair_extent a b
+pair-second a b h k = by_test (eqb b 1) refl
+  where
+    by_test : (y : Bool) → eqb b 1 ≡ y → Some a ≡ pair_extent a b
+    by_test true f = sym (pair-is a b false true (ne_eqb a 1 h) f)
+    by_test false f =
+        let same : a ≡ b = ⊎_elim (λ one. absurd (eqb-false b 1 f one)) (λ same. same) k in
+        ap (λ (t : Bool). cond (t && true) (Some a) None) (sym (eq-eqb b a (sym same))) ∙ sym (pair-is a b false false (ne_eqb a 1 h) f)
+
+pub pair-apart : (a b : ℕ) → a ≢ 1 → b ≢ 1 → a ≢ b → None ≡ pair_extent a b
+pair-apart a b h k n =
+    ap (λ (t : Bool). cond (t && true) (Some a) None) (sym (ne_eqb b a (λ e. n (sym e)))) ∙ sym (pair-is a b false false (ne_eqb a 1 h) (ne_eqb b 1 k))

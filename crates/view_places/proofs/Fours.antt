@@ -1,18 +1,12 @@
 -- Lists of four entries, written out, and bounds on products.
-use Rattle.std.proofs.Common.{◌≡◌, ℕ, zero, suc, ◌+◌, ◌-◌, ◌*◌, ◌^◌, ◌<◌, ◌≤◌, List, [], ◌∷◌, length, get_or, take, drop, replicate, refl, sym, ap, ap₂, subst, ◌∙◌, arith, ℤ, pos, negsuc, ◌+ℤ◌, ◌*ℤ◌, unsigned_abs, mul-le-mul, mul-le-mul_right, lt_of_le_of_lt}
+use Rattle.std.proofs.Common.{◌≡◌, ℕ, zero, suc, ◌+◌, ◌-◌, ◌*◌, ◌^◌, ◌<◌, ◌≤◌, List, [], ◌∷◌, length, get_or, take, drop, replicate, refl, sym, ap, ap₂, subst, ◌∙◌, arith, ℤ, pos, negsuc, ◌+ℤ◌, ◌*ℤ◌, unsigned_abs, mul-le-mul, mul-le-mul_right, lt_of_le_of_lt, SFits, w64}
 use Rattle.std.proofs.lemmas.Int.{ints, unsigned_abs-mul}
 use Rattle.view_places.specs.Arrays.{element_count}
 use Rattle.view_places.specs.Strides.{reach, led_to, weights}
 use Rattle.view_places.proofs.Reach.{zero-product, reach-nil}
 
 pub mul-below : (a b M N L : ℕ) → a ≤ M → b ≤ N → M * N < L → a * b < L
-mul-below a b M N L h k m = lt_of_le_of_lt (mul-le-mul {m = a} {n = M} {k = b} {l = N} h k) m
-
-pub led-bound : (r a b : ℤ) → r ≡ a *ℤ b → unsigned_abs a ≤ 2 ^ 63 → unsigned_abs r ≤ 2 ^ 63 * unsigned_abs b
-led-bound r a b e h =
-    let size : unsigned_abs r ≡ unsigned_abs a * unsigned_abs b = ap unsigned_abs e ∙ unsigned_abs-mul a b in
-    let most : unsigned_abs a * unsigned_abs b ≤ 2 ^ 63 * unsigned_abs b = mul-le-mul_right {m = unsigned_abs a} {n = 2 ^ 63} (unsigned_abs b) h in
-    omega arith
+mul-below a b M N L h k m = lt_of_le_of_lt (mul-le-mul h k) m
 
 pub four-same : {A : Type 0} (xs : List A) (o a b c d : A) → length xs ≡ 4 → a ≡ get_or xs 0 o → b ≡ get_or xs 1 o → c ≡ get_or xs 2 o → d ≡ get_or xs 3 o → a ∷ b ∷ c ∷ d ∷ [] ≡ xs
 four-same [] o a b c d l p q r s = absurd (omega arith)
@@ -87,3 +81,10 @@ reach-rank zero (s ∷ ss) (i ∷ index) h =
     nothing z i e = omega (arith, ints, e)
 reach-rank (suc r) (s ∷ ss) [] h = refl
 reach-rank (suc r) (s ∷ ss) (i ∷ index) h = ap (λ (z : ℤ). (s *ℤ pos i) +ℤ z) (reach-rank r ss index (λ axis k. h (suc axis) (omega arith)))
+
+pub led-size : (r s t : ℤ) (m : ℕ) → r ≡ s *ℤ t → SFits w64 s → unsigned_abs t ≤ m → unsigned_abs r ≤ 2 ^ 63 * m
+led-size r s t m e h k =
+    let size : unsigned_abs r ≡ unsigned_abs s * unsigned_abs t = ap unsigned_abs e ∙ unsigned_abs-mul s t in
+    let few : unsigned_abs s ≤ 2 ^ 63 = omega (arith, ints, h) in
+    let most : unsigned_abs s * unsigned_abs t ≤ 2 ^ 63 * m = mul-le-mul few k in
+    omega arith

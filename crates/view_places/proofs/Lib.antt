@@ -1,6 +1,7 @@
 pub mod Broadcasts
 pub mod Fours
 pub mod Indices
+pub mod Operations
 pub mod PartLemmas
 pub mod Reach
 pub mod Settled

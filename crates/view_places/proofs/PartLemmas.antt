@@ -1,13 +1,13 @@
 -- Parts of a view: where their strides lead, and that they are views again.
-use Rattle.std.proofs.Common.{◌≡◌, ◌≢◌, ℕ, zero, suc, ◌+◌, ◌-◌, ◌*◌, ◌^◌, ◌<◌, ◌≤◌, List, [], ◌∷◌, ◌++◌, map, length, get_or, set, take, drop, replicate, reverse, insert, remove, refl, sym, ap, ap₂, subst, ◌∙◌, arith, Bool, true, false, T, leb, ◌&&◌, ℤ, pos, negsuc, ◌+ℤ◌, ◌*ℤ◌, ◌≤ℤ◌, ◌<ℤ◌, IsTrue, unsigned_abs, leb→le, le→leb, mul_left_comm, mul-le-mul_left, mul-le-mul_right, le_of_mul-le-mul_right, le_antisymm, mul-one}
+use Rattle.std.proofs.Common.{◌≡◌, ◌≢◌, ℕ, zero, suc, ◌+◌, ◌-◌, ◌*◌, ◌^◌, ◌<◌, ◌≤◌, List, [], ◌∷◌, ◌++◌, map, length, get_or, set, take, drop, replicate, reverse, insert, remove, refl, sym, ap, ap₂, subst, ◌∙◌, arith, Bool, true, false, T, leb, ltb, cond, Option, Some, None, ◌&&◌, ℤ, pos, negsuc, ◌+ℤ◌, ◌*ℤ◌, ◌≤ℤ◌, ◌<ℤ◌, IsTrue, unsigned_abs, leb→le, le→leb, mul_left_comm, mul-le-mul_left, mul-le-mul_right, le_of_mul-le-mul_right, le_antisymm, mul-one}
 use Rattle.std.specs.List.{list_all, range_with_len}
 use borrow.Author.Differences.{up, down, sum_is_lem, product_is}
-use borrow.Author.Tests.{leb-false}
+use borrow.Author.Tests.{leb-false, ltb-true}
 use Rattle.std.proofs.lemmas.Int.{ints}
 use Rattle.std.proofs.lemmas.List.{get_or-take, get_or-drop, get_or-map, get_or-set_same, take-append-le, drop-append-le, drop-set-lt, take_at, drop_at, length-take-le, length-drop, length-reverse, length-set, length-map, replicate_more, reverse-reverse, length-append, length-replicate}
 use Rattle.std.proofs.lemmas.List.FromFn.{get_or-range_with_len, length-range_with_len}
 use Rattle.view_places.specs.Alignment.{Fits}
-use Rattle.view_places.specs.Arrays.{element_count, indices, entry, is_small, Inside, clipped, renumbered}
+use Rattle.view_places.specs.Arrays.{element_count, indices, entry, is_small, Inside, clipped, renumbered, position_of}
 use Rattle.view_places.specs.Strides.{reach, led_to, place_at, strided, IsArrayShape, LeadsWithin, LeadsApart}
 use Rattle.view_places.proofs.Fours.{reach-rank}
 use Rattle.view_places.proofs.Indices.{entry-map, map-indices_same}
@@ -271,3 +271,25 @@ module _ (rank L : ℕ) (extent : List ℕ) (o : ℤ) (ss : List ℤ) (is_shape 
 
   pub place-entry : (p : ℕ) → pos p ≡ led_to o ss at → p ≡ entry 0 (take rank extent) (strided o ss (take rank extent)) (take rank at)
   place-entry p e = ap unsigned_abs (e ∙ led-ranked) ∙ sym (entry-map 0 (place_at o ss) (take rank extent) (take rank at) inside)
+
+-- ---- subscripts
+pub position-below : (n k : ℕ) (i : ℤ) → Some k ≡ position_of n i → k < n
+position-below n k (pos i) e = by_test (ltb i n) refl e
+  where
+    by_test : (t : Bool) → ltb i n ≡ t → ◌≡◌ {A = Option ℕ} (Some k) (cond t (Some i) None) → k < n
+    by_test true h g = let same : k ≡ i = cc in omega (arith, ltb-true i n h)
+    by_test false h g = cc
+position-below n k (negsuc i) e = by_test (ltb i n) refl e
+  where
+    by_test : (t : Bool) → ltb i n ≡ t → ◌≡◌ {A = Option ℕ} (Some k) (cond t (Some (n - 1 - i)) None) → k < n
+    by_test true h g = let same : k ≡ n - 1 - i = cc in omega (arith, ltb-true i n h)
+    by_test false h g = cc
+
+pub ranks-fit : (r q : ℕ) (xs ys : List ℕ) → length xs ≡ 4 → length ys ≡ 4 → r ≤ 4 → q ≤ 4 → length (take r xs) ≤ length (take q ys) → r ≤ q
+ranks-fit r q xs ys l k h i few =
+    let first : length (take r xs) ≡ r = length-take-le r xs (omega arith) in
+    let second : length (take q ys) ≡ q = length-take-le q ys (omega arith) in
+    omega arith
+
+pub small-is : (xs : List ℕ) (n : ℕ) → list_all (λ m. leb m (2 ^ 22)) xs ≡ true → n ≡ element_count xs → leb n (2 ^ 22) ≡ is_small xs
+small-is xs n h e = ap (λ (k : ℕ). leb k (2 ^ 22)) e ∙ ap (λ (b : Bool). b && leb (element_count xs) (2 ^ 22)) (sym h)

@@ -1,12 +1,12 @@
 -- Shapes held in four entries, of which those past the rank are 1: their extents, their number of elements and their limits.
 use Rattle.std.proofs.Common.{◌≡◌, ◌≢◌, ℕ, zero, suc, ◌+◌, ◌-◌, ◌*◌, ◌^◌, ◌<◌, ◌≤◌, List, [], ◌∷◌, ◌++◌, map, length, get_or, set, take, drop, replicate, reverse, remove, refl, sym, ap, ap₂, subst, ◌∙◌, arith, eqb, cond, Bool, true, false, T, leb, ◌&&◌, ℤ, pos, negsuc, ◌+ℤ◌, ◌*ℤ◌, ◌≤ℤ◌, ◌<ℤ◌, IsTrue, unsigned_abs, leb→le, le→leb, mul-one, mul-le-mul_left, mul-le-mul_right, mul_comm, add-zero, inl, inr, ◌⊎◌}
 use borrow.Author.Tests.{leb-false}
-use Rattle.std.specs.List.{list_all}
+use Rattle.std.specs.List.{list_all, range_with_len}
 use Rattle.std.proofs.lemmas.Int.{ints}
 use Rattle.std.proofs.lemmas.List.{get_or-take, get_or-drop, get_or-replicate, take-append-drop, length-take-le, length-replicate, length-reverse, take_at, drop_at, replicate_more, drop-drop}
 use Rattle.view_places.specs.Arrays.{element_count, is_small, order_of, Inside}
-use Rattle.view_places.specs.Strides.{reach, led_to, IsArrayShape, IsSettled, LeadsWithin, LeadsApart, settled_strides, weights}
-use Rattle.view_places.proofs.Indices.{order-below, order-apart}
+use Rattle.view_places.specs.Strides.{reach, led_to, IsArrayShape, IsSettled, LeadsWithin, LeadsApart, settled_strides, weights, place_at, strided}
+use Rattle.view_places.proofs.Indices.{order-below, order-apart, map-indices_same, orders}
 use Rattle.view_places.proofs.Reach.{count-append, length-inside, reach-weights, Still, reverse-cons}
 use Rattle.view_places.proofs.Settled.{some-behind, offset-within, stride-within, reach-settled, still-settled}
 
@@ -73,6 +73,11 @@ pub whole-apart : (r m : ℕ) (extent : List ℕ) → drop r extent ≡ replicat
 whole-apart r m extent d a b p q e =
     let same : pos (order_of (take r extent) a) ≡ pos (order_of (take r extent) b) = sym (whole-leads r m extent a d p) ∙ e ∙ whole-leads r m extent b d q in
     order-apart (take r extent) a b p q (omega (arith, ints, same))
+
+pub whole-places : (r m : ℕ) (extent : List ℕ) (ss : List ℤ) → drop r extent ≡ replicate m 1 → ss ≡ weights extent → strided (pos 0) ss (take r extent) ≡ range_with_len 0 (element_count (take r extent))
+whole-places r m extent ss d e =
+    ap (λ (ts : List ℤ). strided (pos 0) ts (take r extent)) e ∙
+    map-indices_same (place_at (pos 0) (weights extent)) (order_of (take r extent)) (take r extent) (λ index p. ap unsigned_abs (whole-leads r m extent index d p)) ∙ orders (take r extent)
 
 -- ---- one offset and strides in place of others that lead the same way
 module _ (L : ℕ) (ns : List ℕ) (o p : ℤ) (ss ts : List ℤ) (same : (index : List ℕ) → Inside ns index → led_to p ts index ≡ led_to o ss index) where
@@ -141,3 +146,18 @@ settled_with_elements ns extent o ss l some =
 
 pub led-settled : (r : ℕ) (extent : List ℕ) (o : ℤ) (ss : List ℤ) (index : List ℕ) → length extent ≡ length ss → Inside (take r extent) index → led_to o (settled_strides extent ss) index ≡ led_to o ss index
 led-settled r extent o ss index l p = ap (λ (z : ℤ). o +ℤ z) (reach-settled r extent ss index l p)
+
+module _ (extent : List ℕ) (o p : ℤ) (ss : List ℤ) (a b c d : ℤ) (four : length extent ≡ 4) (four_strides : length ss ≡ 4) (same : p ≡ o)
+    (first : a ≡ cond (eqb (get_or extent 0 0) 1) (pos 0) (get_or ss 0 (pos 0))) (second : b ≡ cond (eqb (get_or extent 1 0) 1) (pos 0) (get_or ss 1 (pos 0)))
+    (third : c ≡ cond (eqb (get_or extent 2 0) 1) (pos 0) (get_or ss 2 (pos 0))) (fourth : d ≡ cond (eqb (get_or extent 3 0) 1) (pos 0) (get_or ss 3 (pos 0))) where
+  abcd : a ∷ b ∷ c ∷ d ∷ [] ≡ settled_strides extent ss
+  abcd =
+      ap₂ (λ (x : ℤ) (xs : List ℤ). x ∷ xs) first (ap₂ (λ (x : ℤ) (xs : List ℤ). x ∷ xs) second (ap₂ (λ (x : ℤ) (xs : List ℤ). x ∷ xs) third (ap (λ (x : ℤ). x ∷ []) fourth))) ∙
+      sym (four_settled extent ss four four_strides)
+
+  pub same-settled : (ns : List ℕ) → 0 < element_count ns → IsSettled ns extent p (a ∷ b ∷ c ∷ d ∷ [])
+  same-settled ns some = subst (λ (xs : List ℤ). IsSettled ns extent p xs) (sym abcd) (settled_with_elements ns extent p ss (omega arith) some)
+
+  pub same-led : (r : ℕ) (index : List ℕ) → Inside (take r extent) index → led_to p (a ∷ b ∷ c ∷ d ∷ []) index ≡ led_to o ss index
+  same-led r index h =
+      ap (λ (xs : List ℤ). led_to p xs index) abcd ∙ led-settled r extent p ss index (omega arith) h ∙ ap (λ (z : ℤ). led_to z ss index) same

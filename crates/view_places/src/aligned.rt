@@ -8,7 +8,6 @@ use crate::shape::Shape;
 use krn_base::Fault;
 
 /// The extent of the dimension that stands `back` before the last one; 1 where it is missing.
-#[tactic(none)]
 fn extent_back(shape: &Shape, back: u8) -> u32
     requires { IsShape shape.now }
     ensures { result ≡ back_extent back (extents shape.now) }
@@ -21,7 +20,6 @@ fn extent_back(shape: &Shape, back: u8) -> u32
 }
 
 /// The extent of two aligned dimensions, or None where two extents other than 1 differ.
-#[tactic(none)]
 fn joined_extent(a: u32, b: u32) -> Option<u32>
     ensures { result ≡ pair_extent a b }
 {
@@ -35,7 +33,6 @@ fn joined_extent(a: u32, b: u32) -> Option<u32>
 }
 
 /// The one extent other than 1 of each aligned dimension, or None where two such extents differ.
-#[tactic(none)]
 fn joined_shape(a: &Shape, b: &Shape) -> Option<Shape>
     requires first { IsShape a.now }
     requires second { IsShape b.now }
@@ -55,7 +52,6 @@ fn joined_shape(a: &Shape, b: &Shape) -> Option<Shape>
 ///
 /// `ValueError` where two extents other than 1 differ, else `SizeLimit` where an extent or the number of elements is
 /// above 2^22.
-#[tactic(none)]
 pub fn broadcast(a: &Shape, b: &Shape) -> Result<Shape, Fault>
     requires first { IsShape a.now }
     requires second { IsShape b.now }

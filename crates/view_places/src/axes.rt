@@ -1,5 +1,6 @@
 //! Lists of four entries, one for each dimension that an array may have.
-ghost use Rattle.std.specs.Prelude.{◌≡◌, ◌<◌, ◌≤◌, ◌*◌, ◌^◌, ◌++◌, ◌∷◌, [], take, drop, replicate, remove, reverse, pos, IsTrue, ◌↔◌};
+ghost use Rattle.std.specs.Prelude.{◌≡◌, ◌<◌, ◌≤◌, ◌*◌, ◌^◌, ◌++◌, ◌∷◌, [], take, drop, replicate, remove, reverse, pos, nat_le};
+ghost use Rattle.std.specs.List.{list_all};
 ghost use Rattle.view_places.specs.Arrays.{element_count, is_small as is_small_shape};
 ghost use Rattle.view_places.specs.Strides.{weights};
 
@@ -81,9 +82,16 @@ pub fn row_major(extent: &[u32; 4]) -> [i128; 4]
     [second, third, fourth, 1]
 }
 
+/// Whether each extent is at most 2^22.
+fn are_limited(extent: &[u32; 4]) -> bool
+    ensures { result ≡ list_all (λ n. nat_le n (2 ^ 22)) extent.now }
+{
+    extent.iter().all(|n| *n <= 4_194_304)
+}
+
 /// Whether each extent and the number of elements are at most 2^22.
 pub fn is_small(extent: &[u32; 4]) -> bool
     ensures { result ≡ is_small_shape extent.now }
 {
-    extent.iter().all(|n| *n <= 1 << 22) && element_count_of(extent) <= 1 << 22
+    are_limited(extent) && element_count_of(extent) <= 4_194_304
 }

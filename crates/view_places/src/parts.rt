@@ -17,7 +17,6 @@ impl View {
     ghost use Rattle.view_places.specs.Walk.{picks, StaysWithin};
 
     /// The entries with the number k in a dimension.
-    #[tactic(none)]
     pub fn at(&self, axis: u8, k: u32) -> View
         requires axis { axis < self.now.rank }
         requires inside { k < slice_index (extents self.now) axis }
@@ -61,7 +60,6 @@ impl View {
     }
 
     /// The view spread to a shape that its own fits to.
-    #[tactic(none)]
     pub fn spread_to(&self, shape: &Shape) -> Spread
         requires shape { IsShape shape.now }
         requires small { IsTrue (is_small (extents_of_shape shape.now)) }

@@ -26,6 +26,6 @@ impl Spread {
         ensures entry { result ≡ entry 0 (extents self.now) (places self.now) (take self.now.rank at.now) }
         ensures within { result < self.now.length }
     {
-        steps::led(self.offset, &self.stride, at) as u32
+        steps::place_of(self.length, self.offset, &self.stride, at)
     }
 }

@@ -1,5 +1,5 @@
 //! Numbers of steps along strides, in numbers wide enough for them.
-ghost use Rattle.std.specs.Prelude.{◌≢◌, ◌==◌, if◌then◌else◌, ◌≡◌, ◌<◌, ◌≤◌, ◌*◌, ◌^◌, ◌*ℤ◌, pos, unsigned_abs, take, replicate, drop, length, option_map};
+ghost use Rattle.std.specs.Prelude.{◌≢◌, ◌==◌, if◌then◌else◌, ◌≡◌, ◌<◌, ◌≤◌, ◌*◌, ◌^◌, ◌*ℤ◌, ◌+ℤ◌, ◌≤ℤ◌, ◌<ℤ◌, pos, unsigned_abs, take, replicate, drop, length, option_map};
 ghost use Rattle.view_places.specs.Arrays.{position_of as position};
 ghost use Rattle.view_places.specs.Strides.{led_to};
 
@@ -7,10 +7,32 @@ use crate::shape::Index;
 
 /// How far a number of steps of a stride leads.
 pub fn led_by(stride: i64, steps: i64) -> i128
-    ensures value { result ≡ stride *ℤ steps }
-    ensures bound { unsigned_abs result ≤ 2 ^ 63 * unsigned_abs steps }
+    ensures { result ≡ stride *ℤ steps }
 {
     i128::from(stride) * i128::from(steps)
+}
+
+/// A sum of two distances.
+fn plus(a: i128, b: i128) -> i128
+    requires first { unsigned_abs a ≤ 2 ^ 100 }
+    requires second { unsigned_abs b ≤ 2 ^ 100 }
+    ensures { result ≡ a +ℤ b }
+{
+    a + b
+}
+
+/// A sum of an offset and four distances.
+fn sum(offset: i64, first: i128, second: i128, third: i128, fourth: i128) -> i128
+    requires first { unsigned_abs first ≤ 2 ^ 95 }
+    requires second { unsigned_abs second ≤ 2 ^ 95 }
+    requires third { unsigned_abs third ≤ 2 ^ 95 }
+    requires fourth { unsigned_abs fourth ≤ 2 ^ 95 }
+    ensures { result ≡ offset +ℤ (first +ℤ (second +ℤ (third +ℤ fourth))) }
+{
+    let inner = plus(third, fourth);
+    let middle = plus(second, inner);
+    let outer = plus(first, middle);
+    plus(i128::from(offset), outer)
 }
 
 /// Where an index leads.
@@ -21,7 +43,16 @@ pub fn led(offset: i64, stride: &[i64; 4], at: &Index) -> i128
     let second = led_by(stride[1], i64::from(at[1]));
     let third = led_by(stride[2], i64::from(at[2]));
     let fourth = led_by(stride[3], i64::from(at[3]));
-    i128::from(offset) + (first + (second + (third + fourth)))
+    sum(offset, first, second, third, fourth)
+}
+
+/// The place to which an index leads in a buffer of this length.
+pub fn place_of(length: u32, offset: i64, stride: &[i64; 4], at: &Index) -> u32
+    requires low { pos 0 ≤ℤ led_to offset stride.now at.now }
+    requires high { led_to offset stride.now at.now <ℤ pos length }
+    ensures { pos result ≡ led_to offset stride.now at.now }
+{
+    led(offset, stride, at) as u32
 }
 
 /// Which entry of a dimension a subscript names.

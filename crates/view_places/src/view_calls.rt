@@ -42,7 +42,6 @@ impl View {
     /// from the end.
     ///
     /// `IndexError` where the number is outside -n to n - 1 for a dimension of n entries.
-    #[tactic(none)]
     pub fn index(&self, axis: u8, i: i64) -> Result<View, Fault>
         requires { axis < self.now.rank }
         ensures { MatchResult result (λ v. (k : ℕ) × (position_of (slice_index (extents self.now) axis) i ≡ Some k) × IsViewOf self.now v (remove (extents self.now) axis) (at_index 0 axis k (extents self.now) (places self.now))) (λ fault. (fault ≡ Fault.IndexError) × (position_of (slice_index (extents self.now) axis) i ≡ None)) }
@@ -68,7 +67,6 @@ impl View {
     }
 
     /// The entries by reversed indices.
-    #[tactic(none)]
     pub fn transpose(&self) -> View
         ensures { IsViewOf self.now result (reverse (extents self.now)) (transposed 0 (extents self.now) (places self.now)) }
     {
@@ -110,11 +108,10 @@ impl View {
         ensures entry { result ≡ entry 0 (extents self.now) (places self.now) (take self.now.rank at.now) }
         ensures within { result < self.now.length }
     {
-        steps::led(self.offset, &self.stride, at) as u32
+        steps::place_of(self.length, self.offset, &self.stride, at)
     }
 
     /// The view spread to a shape by broadcasting, or None where the broadcast of the two shapes isn't this shape.
-    #[tactic(none)]
     pub fn spread(&self, shape: &Shape) -> Option<Spread>
         requires { IsShape shape.now }
         ensures fits { IsTrue (is_some result) ↔ (broadcast_of (extents self.now ∷ extents_of_shape shape.now ∷ []) ≡ Ok (extents_of_shape shape.now)) }
