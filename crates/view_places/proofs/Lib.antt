@@ -1,6 +1,8 @@
 pub mod Broadcasts
 pub mod Fours
 pub mod Indices
+pub mod Joins
+pub mod OneShape
 pub mod Operations
 pub mod PartLemmas
 pub mod Reach

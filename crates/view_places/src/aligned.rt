@@ -42,8 +42,12 @@ fn joined_shape(a: &Shape, b: &Shape) -> Option<Shape>
     let mut extent = [1; 4];
     for axis in 0..rank {
         let back = rank - 1 - axis;
-        let one = joined_extent(extent_back(a, back), extent_back(b, back))?;
-        extent[usize::from(axis)] = one;
+        let first = extent_back(a, back);
+        let second = extent_back(b, back);
+        match joined_extent(first, second) {
+            Some(one) => extent[usize::from(axis)] = one,
+            None => return None,
+        }
     }
     Some(Shape { rank, extent })
 }

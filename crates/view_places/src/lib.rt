@@ -11,6 +11,8 @@ mod spread;
 mod spread_calls;
 mod steps;
 mod strided;
+#[cfg(test)]
+mod tests;
 mod view;
 mod view_calls;
 mod walk;

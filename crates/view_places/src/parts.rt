@@ -2,7 +2,7 @@
 use crate::axes::{shifted, widened, without};
 use crate::shape::Shape;
 use crate::spread::Spread;
-use crate::steps::led_by;
+use crate::steps::{led_by, plus};
 use crate::strided::Strided;
 use crate::view::View;
 use crate::walk::Walk;
@@ -22,7 +22,8 @@ impl View {
         requires inside { k < slice_index (extents self.now) axis }
         ensures { IsViewOf self.now result (remove (extents self.now) axis) (at_index 0 axis k (extents self.now) (places self.now)) }
     {
-        let offset = i128::from(self.offset) + led_by(self.stride[usize::from(axis)], i64::from(k));
+        let along = led_by(self.stride[usize::from(axis)], i64::from(k));
+        let offset = plus(i128::from(self.offset), along);
         let extent = without(&self.extent, axis, 1);
         let stride = without(&self.stride, axis, 0);
         let stride = widened(&stride);

@@ -13,7 +13,7 @@ pub fn led_by(stride: i64, steps: i64) -> i128
 }
 
 /// A sum of two distances.
-fn plus(a: i128, b: i128) -> i128
+pub fn plus(a: i128, b: i128) -> i128
     requires first { unsigned_abs a ≤ 2 ^ 100 }
     requires second { unsigned_abs b ≤ 2 ^ 100 }
     ensures { result ≡ a +ℤ b }

@@ -118,8 +118,12 @@ impl View {
         ensures spread { IfSome result (λ s. (s.buffer ≡ self.now.buffer) × (s.length ≡ self.now.length) × (extents_of_spread s ≡ extents_of_shape shape.now) × (places_of_spread s ≡ spread 0 (extents self.now) (extents_of_shape shape.now) (places self.now))) }
     {
         match broadcast(&self.shape(), shape) {
-            Ok(joined) if joined == *shape => Some(self.spread_to(shape)),
-            _ => None,
+            Ok(joined) => if joined == *shape {
+                Some(self.spread_to(shape))
+            } else {
+                None
+            },
+            Err(_) => None,
         }
     }
 }
