@@ -1,5 +1,5 @@
 -- The loop over the aligned dimensions of two shapes.
-use Rattle.std.proofs.Common.{◌≡◌, ℕ, zero, suc, ◌+◌, ◌-◌, ◌<◌, ◌≤◌, max, List, [], ◌∷◌, ◌++◌, map, filter, length, get_or, set, take, drop, replicate, refl, sym, ap, subst, ◌∙◌, arith, Bool, true, false, eqb, cond, not, ◌&&◌, IsTrue, Ok, Err, Result, Option, Some, None, leb}
+use Rattle.std.proofs.Common.{◌≡◌, ℕ, zero, suc, ◌+◌, ◌-◌, ◌<◌, ◌≤◌, max, List, [], ◌∷◌, ◌++◌, map, filter, length, get_or, set, take, drop, replicate, refl, sym, ap, subst, ◌∙◌, ◌^◌, arith, Bool, true, false, eqb, cond, not, ◌&&◌, IsTrue, Ok, Err, Result, Option, Some, None, leb}
 use Rattle.std.specs.List.{list_all}
 use Rattle.std.proofs.lemmas.List.{take_all, take_at, drop_at, length-map, take-append-drop}
 use Rattle.std.proofs.lemmas.List.Folds.{list_all_at, list_all_more, list_all-append}

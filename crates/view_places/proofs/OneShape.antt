@@ -1,5 +1,6 @@
 -- A shape is fixed by its extents.
-use Rattle.std.proofs.Common.{◌≡◌, ◌≢◌, ℕ, ◌-◌, ◌≤◌, List, ◌++◌, length, take, drop, replicate, sym, ap, ap₂, ◌∙◌, arith}
+use Rattle.std.proofs.Common.{◌≡◌, ◌≢◌, ℕ, ◌-◌, ◌≤◌, List, ◌++◌, length, take, drop, replicate, sym, ap, ap₂, ◌∙◌, arith, Ok, Result}
+use Rattle.krn_base.specs.declared.fault.Fault.{Fault}
 use Rattle.std.proofs.lemmas.List.{take-append-drop, length-take-le}
 use Rattle.view_places.specs.declared.shape.Shape.{Shape}
 use Rattle.view_places.specs.Shape.{IsShape, extents}
@@ -13,3 +14,6 @@ shape-one a b p q four_a four_b e =
     let all : a.extent ≡ b.extent = sym (take-append-drop a.rank a.extent) ∙ ap₂ (λ (xs ys : List ℕ). xs ++ ys) e rest ∙ take-append-drop b.rank b.extent in
     let made : ℕ → List ℕ → Shape = λ r xs. record { rank = r; extent = xs } in
     ap₂ made same all
+
+pub ok-same : (xs ys : List ℕ) → ◌≡◌ {A = Result (List ℕ) Fault} (Ok xs) (Ok ys) → xs ≡ ys
+ok-same xs ys e = cc

@@ -5,4 +5,3 @@ pub mod Slice
 pub mod Spread
 pub mod Strides
 pub mod View
-pub mod Walk

@@ -3,7 +3,6 @@
 
 mod aligned;
 mod axes;
-mod counting;
 mod parts;
 mod shape;
 mod slice;
@@ -15,7 +14,6 @@ mod strided;
 mod tests;
 mod view;
 mod view_calls;
-mod walk;
 
 pub use aligned::broadcast;
 pub use shape::{Array, Index, Shape};

@@ -5,7 +5,6 @@ use crate::spread::Spread;
 use crate::steps::{led_by, plus};
 use crate::strided::Strided;
 use crate::view::View;
-use crate::walk::Walk;
 
 impl View {
     ghost use Rattle.std.specs.Prelude.{◌≡◌, ◌<◌, ◌≤◌, IsTrue, slice_index, slice_set, remove};
@@ -14,7 +13,6 @@ impl View {
     ghost use Rattle.view_places.specs.Shape.{IsShape, extents as extents_of_shape};
     ghost use Rattle.view_places.specs.Spread.{extents as extents_of_spread, places as places_of_spread};
     ghost use Rattle.view_places.specs.View.{extents, places, IsViewOf};
-    ghost use Rattle.view_places.specs.Walk.{picks, StaysWithin};
 
     /// The entries with the number k in a dimension.
     pub fn at(&self, axis: u8, k: u32) -> View
@@ -31,30 +29,6 @@ impl View {
             rank: self.rank - 1,
             extent,
             offset,
-            stride,
-        };
-        raw.view(self.buffer, self.length)
-    }
-
-    /// The entries whose number in a dimension a walk meets.
-    #[tactic(none)]
-    pub fn picked(&self, axis: u8, walk: &Walk) -> View
-        requires axis { axis < self.now.rank }
-        requires within { StaysWithin (slice_index (extents self.now) axis) walk.now }
-        ensures { IsViewOf self.now result (slice_set (extents self.now) axis walk.now.count) (sliced 0 axis (picks walk.now) (extents self.now) (places self.now)) }
-    {
-        let at = usize::from(axis);
-        let start = led_by(self.stride[at], walk.start);
-        let step = led_by(self.stride[at], walk.step);
-        let mut extent = self.extent;
-        extent[at] = walk.count;
-        let strides = self.stride;
-        let mut stride = widened(&strides);
-        stride[at] = step;
-        let raw = Strided {
-            rank: self.rank,
-            extent,
-            offset: i128::from(self.offset) + start,
             stride,
         };
         raw.view(self.buffer, self.length)

@@ -1,8 +1,6 @@
 use crate::aligned::broadcast;
 use crate::axes::{element_count_of, reversed, row_major, widened};
-use crate::counting::slice_walk;
 use crate::shape::{Index, Shape};
-use crate::slice::Slice;
 use crate::spread::Spread;
 use crate::steps;
 use crate::strided::Strided;
@@ -15,8 +13,7 @@ impl View {
     ghost use Rattle.view_places.specs.Arrays.{element_count, entry, spread, is_small, broadcast_of, Inside, position_of, at_index, sliced, transposed};
     ghost use Rattle.view_places.specs.Shape.{IsShape, extents as extents_of_shape};
     ghost use Rattle.view_places.specs.Spread.{extents as extents_of_spread, places as places_of_spread};
-    ghost use Rattle.view_places.specs.Slice.{slice_indices};
-    ghost use Rattle.view_places.specs.View.{extents, places, IsViewOf, IsConsecutive};
+    ghost use Rattle.view_places.specs.View.{extents, places, IsViewOf};
 
     /// All elements of a buffer that has as many as the shape, in order.
     pub fn whole(buffer: u32, shape: &Shape) -> View
@@ -52,20 +49,6 @@ impl View {
         }
     }
 
-    /// The entries whose number in a dimension below the rank is one that the slice counts out, in its order.
-    ///
-    /// `ValueError` where the step is 0.
-    #[tactic(none)]
-    pub fn slice(&self, axis: u8, s: Slice) -> Result<View, Fault>
-        requires { axis < self.now.rank }
-        ensures { MatchResult result (λ v. (picked : List ℕ) × (slice_indices (slice_index (extents self.now) axis) s ≡ Some picked) × IsViewOf self.now v (slice_set (extents self.now) axis (length picked)) (sliced 0 axis picked (extents self.now) (places self.now))) (λ fault. (fault ≡ Fault.ValueError) × (slice_indices (slice_index (extents self.now) axis) s ≡ None)) }
-    {
-        match slice_walk(self.extent[usize::from(axis)], &s) {
-            Some(walk) => Ok(self.picked(axis, &walk)),
-            None => Err(Fault::ValueError),
-        }
-    }
-
     /// The entries by reversed indices.
     pub fn transpose(&self) -> View
         ensures { IsViewOf self.now result (reverse (extents self.now)) (transposed 0 (extents self.now) (places self.now)) }
@@ -80,14 +63,6 @@ impl View {
             stride,
         };
         raw.view(self.buffer, self.length)
-    }
-
-    /// Whether the places are consecutive and rising.
-    #[tactic(none)]
-    pub fn is_contiguous(&self) -> bool
-        ensures { IsTrue result ↔ IsConsecutive (places self.now) }
-    {
-        self.stride == View::whole(self.buffer, &self.shape()).stride
     }
 
     /// The shape.

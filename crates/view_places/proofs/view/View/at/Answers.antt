@@ -7,11 +7,11 @@ use Rattle.view_places.proofs.view.View.at.Goals as goal
 
 pub plus-offset-requires-clause-second : goal.plus-offset-requires-clause-second
 plus-offset-requires-clause-second c =
-    let fits : SFits w64 (get_or c.args.self.now.stride c.from-2.result (pos 0)) = search rules in
-    let fits_number : SFits w64 c.from-3.result = search rules in
-    let is_axis : c.from-2.result ≡ c.args.axis = omega arith in
-    let is_number : c.from-3.result ≡ pos c.args.k = omega (arith, ints) in
-    let exact : c.led_by-along.result ≡ get_or c.args.self.now.stride c.from-2.result (pos 0) *ℤ c.from-3.result = simp to_z-of_z at c.led_by-along.ensures in
+    let fits : SFits w64 (get_or c.args.self.now.stride c.from.result (pos 0)) = search rules in
+    let fits_number : SFits w64 c.from-2.result = search rules in
+    let is_axis : c.from.result ≡ c.args.axis = omega arith in
+    let is_number : c.from-2.result ≡ pos c.args.k = omega (arith, ints) in
+    let exact : c.led_by-along.result ≡ get_or c.args.self.now.stride c.from.result (pos 0) *ℤ c.from-2.result = simp to_z-of_z at c.led_by-along.ensures in
     let e : c.led_by-along.result ≡ get_or c.args.self.now.stride c.args.axis (pos 0) *ℤ pos c.args.k = exact ∙ ap₂ (λ (i : ℕ) (z : ℤ). get_or c.args.self.now.stride i (pos 0) *ℤ z) is_axis is_number in
     let small : c.args.k < 2 ^ 32 = omega arith in
     let fits_axis : SFits w64 (get_or c.args.self.now.stride c.args.axis (pos 0)) = subst (λ (i : ℕ). SFits w64 (get_or c.args.self.now.stride i (pos 0))) is_axis fits in
@@ -24,33 +24,33 @@ view-requires-clause-shape c = at_view-shape c.args.self.now.rank c.args.axis c.
 
 pub view-requires-clause-within : goal.view-requires-clause-within
 view-requires-clause-within c =
-    let fits : SFits w64 (get_or c.args.self.now.stride c.from-2.result (pos 0)) = search rules in
-    let fits_number : SFits w64 c.from-3.result = search rules in
-    let is_axis : c.from-2.result ≡ c.args.axis = omega arith in
-    let is_number : c.from-3.result ≡ pos c.args.k = omega (arith, ints) in
-    let exact : c.led_by-along.result ≡ get_or c.args.self.now.stride c.from-2.result (pos 0) *ℤ c.from-3.result = simp to_z-of_z at c.led_by-along.ensures in
+    let fits : SFits w64 (get_or c.args.self.now.stride c.from.result (pos 0)) = search rules in
+    let fits_number : SFits w64 c.from-2.result = search rules in
+    let is_axis : c.from.result ≡ c.args.axis = omega arith in
+    let is_number : c.from-2.result ≡ pos c.args.k = omega (arith, ints) in
+    let exact : c.led_by-along.result ≡ get_or c.args.self.now.stride c.from.result (pos 0) *ℤ c.from-2.result = simp to_z-of_z at c.led_by-along.ensures in
     let e : c.led_by-along.result ≡ get_or c.args.self.now.stride c.args.axis (pos 0) *ℤ pos c.args.k = exact ∙ ap₂ (λ (i : ℕ) (z : ℤ). get_or c.args.self.now.stride i (pos 0) *ℤ z) is_axis is_number in
     at_view-within c.args.self.now.rank c.args.axis c.args.k c.args.self.now.length c.args.self.now.extent c.without-extent.result c.args.self.now.offset _ c.args.self.now.stride c.widened-stride.result c.args.self.now.shape (search rules) (search rules)
     c.requires.axis c.requires.inside c.without-extent.ensures (c.widened-stride.ensures ∙ c.without-stride.ensures) (omega (arith, ints, e, c.plus-offset.ensures)) c.args.self.now.within
 
 pub view-requires-clause-apart : goal.view-requires-clause-apart
 view-requires-clause-apart c =
-    let fits : SFits w64 (get_or c.args.self.now.stride c.from-2.result (pos 0)) = search rules in
-    let fits_number : SFits w64 c.from-3.result = search rules in
-    let is_axis : c.from-2.result ≡ c.args.axis = omega arith in
-    let is_number : c.from-3.result ≡ pos c.args.k = omega (arith, ints) in
-    let exact : c.led_by-along.result ≡ get_or c.args.self.now.stride c.from-2.result (pos 0) *ℤ c.from-3.result = simp to_z-of_z at c.led_by-along.ensures in
+    let fits : SFits w64 (get_or c.args.self.now.stride c.from.result (pos 0)) = search rules in
+    let fits_number : SFits w64 c.from-2.result = search rules in
+    let is_axis : c.from.result ≡ c.args.axis = omega arith in
+    let is_number : c.from-2.result ≡ pos c.args.k = omega (arith, ints) in
+    let exact : c.led_by-along.result ≡ get_or c.args.self.now.stride c.from.result (pos 0) *ℤ c.from-2.result = simp to_z-of_z at c.led_by-along.ensures in
     let e : c.led_by-along.result ≡ get_or c.args.self.now.stride c.args.axis (pos 0) *ℤ pos c.args.k = exact ∙ ap₂ (λ (i : ℕ) (z : ℤ). get_or c.args.self.now.stride i (pos 0) *ℤ z) is_axis is_number in
     at_view-apart c.args.self.now.rank c.args.axis c.args.k c.args.self.now.length c.args.self.now.extent c.without-extent.result c.args.self.now.offset _ c.args.self.now.stride c.widened-stride.result c.args.self.now.shape (search rules) (search rules)
     c.requires.axis c.requires.inside c.without-extent.ensures (c.widened-stride.ensures ∙ c.without-stride.ensures) (omega (arith, ints, e, c.plus-offset.ensures)) c.args.self.now.apart
 
 pub returns : goal.returns
 returns c =
-    let fits : SFits w64 (get_or c.args.self.now.stride c.from-2.result (pos 0)) = search rules in
-    let fits_number : SFits w64 c.from-3.result = search rules in
-    let is_axis : c.from-2.result ≡ c.args.axis = omega arith in
-    let is_number : c.from-3.result ≡ pos c.args.k = omega (arith, ints) in
-    let exact : c.led_by-along.result ≡ get_or c.args.self.now.stride c.from-2.result (pos 0) *ℤ c.from-3.result = simp to_z-of_z at c.led_by-along.ensures in
+    let fits : SFits w64 (get_or c.args.self.now.stride c.from.result (pos 0)) = search rules in
+    let fits_number : SFits w64 c.from-2.result = search rules in
+    let is_axis : c.from.result ≡ c.args.axis = omega arith in
+    let is_number : c.from-2.result ≡ pos c.args.k = omega (arith, ints) in
+    let exact : c.led_by-along.result ≡ get_or c.args.self.now.stride c.from.result (pos 0) *ℤ c.from-2.result = simp to_z-of_z at c.led_by-along.ensures in
     let e : c.led_by-along.result ≡ get_or c.args.self.now.stride c.args.axis (pos 0) *ℤ pos c.args.k = exact ∙ ap₂ (λ (i : ℕ) (z : ℤ). get_or c.args.self.now.stride i (pos 0) *ℤ z) is_axis is_number in
     record {
       buffer = c.view.ensures.buffer;
