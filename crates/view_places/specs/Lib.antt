@@ -1,3 +1,4 @@
+pub mod Alignment
 pub mod Arrays
 pub mod Shape
 pub mod Slice

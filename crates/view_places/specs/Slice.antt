@@ -1,5 +1,5 @@
 -- What a slice picks of a dimension, by the rules of Python's slice objects (`slice.indices`).
-use Rattle.std.specs.Prelude.{ℕ, zero, suc, ◌+◌, Bool, List, map, filter, if◌then◌else◌, ℤ, pos, negsuc, ◌+ℤ◌, ◌-ℤ◌, ◌*ℤ◌, int_lt, unsigned_abs, Option, Some, None, unwrap_or}
+use Rattle.std.specs.Prelude.{ℕ, zero, suc, ◌+◌, Bool, List, map, filter, if◌then◌else◌, ℤ, pos, negsuc, ◌+ℤ◌, ◌-ℤ◌, ◌*ℤ◌, ◌≤ℤ◌, ◌<ℤ◌, ◌≡◌, int_lt, unsigned_abs, Option, Some, None, unwrap_or}
 use Rattle.std.specs.List.{range_with_len}
 use Rattle.std.specs.Int.{int_max, int_min}
 use Rattle.view_places.specs.declared.slice.Slice.{Slice}
@@ -17,9 +17,13 @@ clip least most z = int_max least (int_min most z)
 abbrev pub is_before : ℤ → ℤ → ℤ → Bool
 is_before step stop i = if int_lt (pos 0) step then int_lt i stop else int_lt stop i
 
+-- the number that stands k steps from a start
+abbrev pub after_steps : ℤ → ℤ → ℕ → ℤ
+after_steps start step k = start +ℤ (pos k *ℤ step)
+
 -- the numbers from a start by a step that stand before a stop; of a dimension with n entries a walk meets n at most
 abbrev pub walk : ℕ → ℤ → ℤ → ℤ → List ℤ
-walk n start stop step = filter (is_before step stop) (map (λ k. start +ℤ (pos k *ℤ step)) (range_with_len 0 n))
+walk n start stop step = filter (is_before step stop) (map (after_steps start step) (range_with_len 0 n))
 
 -- a bound that is given, counted from the front and clipped, or else the absent one
 abbrev pub bound : ℕ → ℤ → ℤ → ℤ → Option ℤ → ℤ
@@ -37,3 +41,8 @@ picks_by n s (negsuc k) =
 -- the numbers that a slice picks of a dimension with n entries, in its order; None at step 0
 abbrev pub slice_indices : ℕ → Slice → Option (List ℕ)
 slice_indices n s = picks_by n s (unwrap_or s.step (pos 1))
+
+-- d is how far a stop is past a start, or 0 where it isn't past it
+pub record IsDistance (start stop : ℤ) (d : ℕ) : Type 0 where
+  pub past : start <ℤ stop → start +ℤ pos d ≡ stop
+  pub none : stop ≤ℤ start → d ≡ 0

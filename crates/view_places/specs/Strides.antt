@@ -1,5 +1,5 @@
 -- Where an offset and strides place the entries of a shape in a buffer.
-use Rattle.std.specs.Prelude.{◌≡◌, ℕ, ◌-◌, ◌≤◌, List, [], ◌∷◌, map, take, drop, replicate, ℤ, pos, ◌+ℤ◌, ◌*ℤ◌, ◌≤ℤ◌, ◌<ℤ◌, unsigned_abs, slice_index_or, IsTrue}
+use Rattle.std.specs.Prelude.{◌≡◌, ℕ, ◌-◌, ◌≤◌, List, [], ◌∷◌, map, take, drop, replicate, ℤ, pos, ◌+ℤ◌, ◌*ℤ◌, ◌≤ℤ◌, ◌<ℤ◌, unsigned_abs, slice_index_or, IsTrue, if◌then◌else◌, ◌==◌}
 use Rattle.view_places.specs.Arrays.{element_count, indices, is_small, Inside}
 
 -- how far an index leads: the sum of its numbers, each times its stride
@@ -47,3 +47,9 @@ pub record IsSettled (ns extent : List ℕ) (offset : ℤ) (stride : List ℤ) :
 abbrev pub weights : List ℕ → List ℤ
 weights [] = []
 weights (n ∷ ns) = pos (element_count ns) ∷ weights ns
+
+-- strides with 0 along each dimension of extent 1
+abbrev pub settled_strides : List ℕ → List ℤ → List ℤ
+settled_strides [] ss = []
+settled_strides (n ∷ ns) [] = []
+settled_strides (n ∷ ns) (s ∷ ss) = (if n == 1 then pos 0 else s) ∷ settled_strides ns ss

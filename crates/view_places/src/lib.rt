@@ -1,11 +1,21 @@
 //! Shapes, and strided views of one buffer as lists of places. No call takes memory.
 #![tactic(auto)]
 
+mod aligned;
+mod axes;
+mod parts;
 mod shape;
 mod slice;
 mod spread;
+mod spread_calls;
+mod steps;
+mod strided;
+#[cfg(test)]
+mod tests;
 mod view;
+mod view_calls;
 
+pub use aligned::broadcast;
 pub use shape::{Array, Index, Shape};
 pub use slice::Slice;
 pub use spread::Spread;

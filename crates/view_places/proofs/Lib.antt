@@ -1,0 +1,11 @@
+pub mod Broadcasts
+pub mod Fours
+pub mod Indices
+pub mod Joins
+pub mod OneShape
+pub mod Operations
+pub mod PartLemmas
+pub mod Reach
+pub mod Settled
+pub mod Shapes
+pub mod WalkLemmas

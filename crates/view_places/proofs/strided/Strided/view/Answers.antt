@@ -1,0 +1,22 @@
+use Rattle.std.proofs.Common.{◌≡◌, ℕ, ◌+◌, ◌-◌, ◌*◌, ◌^◌, ◌<◌, ◌≤◌, ◌≢◌, List, ◌∷◌, [], ◌++◌, length, get_or, take, drop, replicate, reverse, insert, remove, set, arith, rules, refl, sym, ap, ap₂, subst, ◌∙◌, ℤ, pos, ◌+ℤ◌, ◌*ℤ◌, ◌≤ℤ◌, ◌<ℤ◌, unsigned_abs, lit<, lit≤, Some, None, SFits, w64, to_z, of_z, to_z-of_z}
+use mir.Syntax.{w128}
+use Rattle.std.proofs.lemmas.Int.{ints}
+use Rattle.view_places.specs.Strides.{LeadsWithin, LeadsApart}
+use Rattle.view_places.proofs.Settled.{strided_same}
+use Rattle.view_places.proofs.Shapes.{within-same, apart-same}
+use Rattle.view_places.proofs.strided.Strided.view.Goals as goal
+
+pub invariant_of-result-clause-within : goal.invariant_of-result-clause-within
+invariant_of-result-clause-within c =
+    let fits : SFits w64 c.settled-offset.result.offset = search rules in
+    subst (λ (o : ℤ). LeadsWithin c.args.length (take c.args.self.now.rank c.args.self.now.extent) o c.settled-offset.result.stride) (sym (to_z-of_z fits)) (within-same c.args.length (take c.args.self.now.rank c.args.self.now.extent) c.args.self.now.offset c.settled-offset.result.offset c.args.self.now.stride c.settled-offset.result.stride c.settled-offset.ensures.same c.requires.within)
+
+pub invariant_of-result-clause-apart : goal.invariant_of-result-clause-apart
+invariant_of-result-clause-apart c =
+    let fits : SFits w64 c.settled-offset.result.offset = search rules in
+    subst (λ (o : ℤ). LeadsApart (take c.args.self.now.rank c.args.self.now.extent) o c.settled-offset.result.stride) (sym (to_z-of_z fits)) (apart-same c.args.length (take c.args.self.now.rank c.args.self.now.extent) c.args.self.now.offset c.settled-offset.result.offset c.args.self.now.stride c.settled-offset.result.stride c.settled-offset.ensures.same c.requires.apart)
+
+pub returns-clause-places : goal.returns-clause-places
+returns-clause-places c =
+    let fits : SFits w64 c.settled-offset.result.offset = search rules in
+    simp to_z-of_z (strided_same (take c.args.self.now.rank c.args.self.now.extent) c.settled-offset.result.offset c.args.self.now.offset c.settled-offset.result.stride c.args.self.now.stride c.settled-offset.ensures.same)

@@ -1,0 +1,24 @@
+use Rattle.std.proofs.Common.{◌≡◌, ℕ, ◌+◌, ◌-◌, ◌*◌, ◌^◌, ◌<◌, ◌≤◌, ◌≢◌, List, ◌∷◌, [], ◌++◌, length, get_or, take, drop, replicate, reverse, insert, remove, set, arith, rules, refl, sym, ap, subst, ◌∙◌, ℤ, pos, ◌+ℤ◌, ◌*ℤ◌, ◌≤ℤ◌, ◌<ℤ◌, unsigned_abs, lit<, lit≤, Some, None, slice_index}
+use Rattle.std.proofs.lemmas.Int.{ints}
+use Rattle.std.proofs.lemmas.List.{get_or-take}
+use Rattle.view_places.specs.Arrays.{position_of}
+use Rattle.view_places.proofs.PartLemmas.{position-below}
+use Rattle.view_places.proofs.view.View.index.Goals as goal
+
+pub at-requires-clause-inside : goal.at-requires-clause-inside
+at-requires-clause-inside c =
+    let here : get_or (take c.args.self.now.rank c.args.self.now.extent) c.args.axis 0 ≡ get_or c.args.self.now.extent c.args.axis 0 = get_or-take c.args.self.now.rank c.args.self.now.extent c.args.axis 0 c.requires in
+    let below : c.in-Some.k < get_or c.args.self.now.extent c.args.axis 0 = position-below (get_or c.args.self.now.extent c.args.axis 0) c.in-Some.k c.args.i (search rules) in
+    omega (arith, here, below)
+
+pub returns-in-Some : goal.returns-in-Some
+returns-in-Some c =
+    let here : get_or (take c.args.self.now.rank c.args.self.now.extent) c.args.axis 0 ≡ get_or c.args.self.now.extent c.args.axis 0 = get_or-take c.args.self.now.rank c.args.self.now.extent c.args.axis 0 c.requires in
+    let found : position_of (get_or c.args.self.now.extent c.args.axis 0) c.args.i ≡ Some c.in-Some.k = search rules in
+    (c.in-Some.k, ap (λ (n : ℕ). position_of n c.args.i) here ∙ found, c.at.ensures)
+
+pub returns-in-None : goal.returns-in-None
+returns-in-None c =
+    let here : get_or (take c.args.self.now.rank c.args.self.now.extent) c.args.axis 0 ≡ get_or c.args.self.now.extent c.args.axis 0 = get_or-take c.args.self.now.rank c.args.self.now.extent c.args.axis 0 c.requires in
+    let none : position_of (get_or c.args.self.now.extent c.args.axis 0) c.args.i ≡ None = search rules in
+    (refl, ap (λ (n : ℕ). position_of n c.args.i) here ∙ none)

@@ -1,0 +1,104 @@
+use crate::aligned::broadcast;
+use crate::axes::{element_count_of, reversed, row_major, widened};
+use crate::shape::{Index, Shape};
+use crate::spread::Spread;
+use crate::steps;
+use crate::strided::Strided;
+use crate::view::View;
+use krn_base::Fault;
+
+impl View {
+    ghost use Rattle.std.specs.Prelude.{◌≡◌, ℕ, List, ◌<◌, ◌∷◌, [], length, take, reverse, IsTrue, MatchOption, MatchResult, Ok, Err, None, Some, slice_index, slice_set, remove, ◌↔◌, is_some, IfSome};
+    ghost use Rattle.std.specs.List.{range_with_len};
+    ghost use Rattle.view_places.specs.Arrays.{element_count, entry, spread, is_small, broadcast_of, Inside, position_of, at_index, sliced, transposed};
+    ghost use Rattle.view_places.specs.Shape.{IsShape, extents as extents_of_shape};
+    ghost use Rattle.view_places.specs.Spread.{extents as extents_of_spread, places as places_of_spread};
+    ghost use Rattle.view_places.specs.View.{extents, places, IsViewOf};
+
+    /// All elements of a buffer that has as many as the shape, in order.
+    pub fn whole(buffer: u32, shape: &Shape) -> View
+        requires shape { IsShape shape.now }
+        requires small { IsTrue (is_small (extents_of_shape shape.now)) }
+        ensures buffer { result.buffer ≡ buffer }
+        ensures length { result.length ≡ element_count (extents_of_shape shape.now) }
+        ensures extents { extents result ≡ extents_of_shape shape.now }
+        ensures places { places result ≡ range_with_len 0 (element_count (extents_of_shape shape.now)) }
+    {
+        let extent = shape.extent;
+        let stride = row_major(&extent);
+        let raw = Strided {
+            rank: shape.rank,
+            extent,
+            offset: 0,
+            stride,
+        };
+        raw.view(buffer, element_count_of(&extent) as u32)
+    }
+
+    /// The entries with the number `i` in a dimension below the rank, without that dimension. A negative number counts
+    /// from the end.
+    ///
+    /// `IndexError` where the number is outside -n to n - 1 for a dimension of n entries.
+    pub fn index(&self, axis: u8, i: i64) -> Result<View, Fault>
+        requires { axis < self.now.rank }
+        ensures { MatchResult result (λ v. (k : ℕ) × (position_of (slice_index (extents self.now) axis) i ≡ Some k) × IsViewOf self.now v (remove (extents self.now) axis) (at_index 0 axis k (extents self.now) (places self.now))) (λ fault. (fault ≡ Fault.IndexError) × (position_of (slice_index (extents self.now) axis) i ≡ None)) }
+    {
+        match steps::position_of(self.extent[usize::from(axis)], i) {
+            Some(k) => Ok(self.at(axis, k)),
+            None => Err(Fault::IndexError),
+        }
+    }
+
+    /// The entries by reversed indices.
+    pub fn transpose(&self) -> View
+        ensures { IsViewOf self.now result (reverse (extents self.now)) (transposed 0 (extents self.now) (places self.now)) }
+    {
+        let extent = reversed(&self.extent, self.rank);
+        let stride = reversed(&self.stride, self.rank);
+        let stride = widened(&stride);
+        let raw = Strided {
+            rank: self.rank,
+            extent,
+            offset: i128::from(self.offset),
+            stride,
+        };
+        raw.view(self.buffer, self.length)
+    }
+
+    /// The shape.
+    pub fn shape(&self) -> Shape
+        ensures extents { extents_of_shape result ≡ extents self.now }
+        ensures shape { IsShape result }
+        ensures small { IsTrue (is_small (extents self.now)) }
+    {
+        Shape {
+            rank: self.rank,
+            extent: self.extent,
+        }
+    }
+
+    /// The place of the element at an index, which is inside the extents.
+    pub fn place(&self, at: &Index) -> u32
+        requires { Inside (extents self.now) (take self.now.rank at.now) }
+        ensures entry { result ≡ entry 0 (extents self.now) (places self.now) (take self.now.rank at.now) }
+        ensures within { result < self.now.length }
+    {
+        steps::place_of(self.length, self.offset, &self.stride, at)
+    }
+
+    /// The view spread to a shape by broadcasting, or None where the broadcast of the two shapes isn't this shape.
+    pub fn spread(&self, shape: &Shape) -> Option<Spread>
+        requires { IsShape shape.now }
+        ensures fits { IsTrue (is_some result) ↔ (broadcast_of (extents self.now ∷ extents_of_shape shape.now ∷ []) ≡ Ok (extents_of_shape shape.now)) }
+        ensures spread { IfSome result (λ s. (s.buffer ≡ self.now.buffer) × (s.length ≡ self.now.length) × (extents_of_spread s ≡ extents_of_shape shape.now) × (places_of_spread s ≡ spread 0 (extents self.now) (extents_of_shape shape.now) (places self.now))) }
+    {
+        match broadcast(&self.shape(), shape) {
+            Ok(joined) => if joined == *shape {
+                Some(self.spread_to(shape))
+            } else {
+                None
+            },
+            Err(_) => None,
+        }
+    }
+}
