@@ -1,0 +1,192 @@
+-- The binding of a call's items to a kernel. Its tests stand in their order, each over all items before the next one begins;
+-- the order and the limit of 16 buffers are this project's own.
+use Rattle.std.specs.Prelude.{ℕ, ◌+◌, ◌==◌, nat_le, Bool, true, false, not, ◌&&◌, ◌||◌, if◌then◌else◌, List, [], ◌∷◌, ◌++◌, map, length, slice_index_or, Option, Some, None, option_map, Result, Ok, Err, ℤ, bytes_eq}
+use Rattle.std.specs.List.{list_any, position, find, filter_map, count_by, range_with_len}
+use Rattle.std.specs.Option.{unwrap_or, is_some}
+use Rattle.krn_base.specs.declared.kind.Kind.TheVariants.{Int64, Bool as BoolKind}
+use Rattle.krn_base.specs.declared.kind.ParamType.{ParamType}
+use Rattle.krn_base.specs.declared.kind.ParamType.TheVariants.{Scalar, Flat, Strided}
+use Rattle.view_places.specs.declared.shape.Array.{Array}
+use Rattle.eager_rules.specs.State.{Bound, ArrayOf}
+use Rattle.eager_rules.specs.Eager.{shape_of}
+use Rattle.call_items.specs.Reading.{read_from}
+use Rattle.call_items.specs.declared.head.KernelHead.{KernelHead}
+use Rattle.call_items.specs.declared.item.Item.{Item}
+use Rattle.call_items.specs.declared.item.Item.TheVariants.{Buffer, Argument}
+
+-- an item gives the buffer of this name; it gives some buffer; it is for this parameter
+abbrev pub is_buffer_named : List ℕ → Item → Bool
+is_buffer_named name (Buffer own words) = bytes_eq name own
+is_buffer_named name (Argument parameter buffer) = false
+
+abbrev pub is_buffer : Item → Bool
+is_buffer (Buffer name words) = true
+is_buffer (Argument parameter buffer) = false
+
+abbrev pub is_argument_for : List ℕ → Item → Bool
+is_argument_for parameter (Buffer name words) = false
+is_argument_for parameter (Argument own buffer) = bytes_eq parameter own
+
+-- the number from 1 of an item at a place from 0
+abbrev pub numbered : Option ℕ → Option ℕ
+numbered at = option_map (λ i. i + 1) at
+
+-- Test 2. An item behind others is one too many: it is the second for its buffer or parameter, or gives the 17th buffer.
+abbrev pub is_surplus : List Item → Item → Bool
+is_surplus before (Buffer name words) = list_any (is_buffer_named name) before || nat_le 16 (count_by is_buffer before)
+is_surplus before (Argument parameter buffer) = list_any (is_argument_for parameter) before
+
+abbrev pub surplus_from : ℕ → List Item → List Item → Option ℕ
+surplus_from n before [] = None
+surplus_from n before (x ∷ rest) = if is_surplus before x then Some n else surplus_from (n + 1) (before ++ x ∷ []) rest
+
+abbrev pub surplus : List Item → Option ℕ
+surplus items = surplus_from 1 [] items
+
+-- the buffers in word order: their names, and what they hold
+abbrev pub name_of : Item → Option (List ℕ)
+name_of (Buffer name words) = Some name
+name_of (Argument parameter buffer) = None
+
+abbrev pub buffer_names : List Item → List (List ℕ)
+buffer_names items = filter_map name_of items
+
+abbrev pub row : List ℤ → Array
+row words = record { kind = Int64; shape = shape_of (length words ∷ []); words = words }
+
+abbrev pub array_of : Item → Option Array
+array_of (Buffer name words) = Some (row words)
+array_of (Argument parameter buffer) = None
+
+abbrev pub arrays : List Item → List Array
+arrays items = filter_map array_of items
+
+-- Test 3. An argument has a name that no buffer has.
+abbrev pub is_unbound : List (List ℕ) → Item → Bool
+is_unbound names (Buffer name words) = false
+is_unbound names (Argument parameter buffer) = not (list_any (bytes_eq buffer) names)
+
+abbrev pub unbound : List Item → Option ℕ
+unbound items = numbered (position (is_unbound (buffer_names items)) items)
+
+-- Test 4. No kernel has the name.
+abbrev pub is_named : List ℕ → KernelHead → Bool
+is_named name kernel = bytes_eq name kernel.name
+
+abbrev pub unknown : List KernelHead → List ℕ → Option ℕ
+unknown kernels name = if list_any (is_named name) kernels then None else Some 0
+
+-- the parameters of the first kernel of the name
+abbrev pub params_of : Option KernelHead → List (List ℕ × ParamType)
+params_of None = []
+params_of (Some kernel) = kernel.params
+
+abbrev pub first_params : List KernelHead → List ℕ → List (List ℕ × ParamType)
+first_params kernels name = params_of (find (is_named name) kernels)
+
+-- Test 5. An item is for a parameter that isn't among these.
+abbrev pub is_stray : List (List ℕ × ParamType) → Item → Bool
+is_stray params (Buffer name words) = false
+is_stray params (Argument parameter buffer) = not (list_any (λ param. bytes_eq parameter param.0) params)
+
+abbrev pub stray : List (List ℕ × ParamType) → List Item → Option ℕ
+stray params items = numbered (position (is_stray params) items)
+
+-- Test 6. One of these parameters has no item.
+abbrev pub is_missing : List Item → List ℕ × ParamType → Bool
+is_missing items param = not (list_any (is_argument_for param.0) items)
+
+abbrev pub missing : List (List ℕ × ParamType) → List Item → Option ℕ
+missing params items = if list_any (is_missing items) params then Some 0 else None
+
+-- Test 9. No kernel of the name fits: each of its parameters has an item, and takes an int64 array of rank 1, which every
+-- argument is. Such an argument is a whole buffer, so its places are consecutive and rising.
+abbrev pub takes_row : ParamType → Bool
+takes_row (Scalar kind) = false
+takes_row (Flat Int64 rank) = rank == 1
+takes_row (Flat BoolKind rank) = false
+takes_row (Strided Int64 rank) = rank == 1
+takes_row (Strided BoolKind rank) = false
+
+abbrev pub is_unfit : List Item → List ℕ × ParamType → Bool
+is_unfit items param = is_missing items param || not (takes_row param.1)
+
+abbrev pub fits : List ℕ → List Item → KernelHead → Bool
+fits name items kernel = is_named name kernel && not (list_any (is_unfit items) kernel.params)
+
+abbrev pub fitting : List KernelHead → List ℕ → List Item → Option ℕ
+fitting kernels name items = position (fits name items) kernels
+
+abbrev pub unfitting : List KernelHead → List ℕ → List Item → Option ℕ
+unfitting kernels name items = if is_some (fitting kernels name items) then None else Some 0
+
+-- the first test that answers
+abbrev pub first_answer : List (Option ℕ) → Option ℕ
+first_answer [] = None
+first_answer (Some n ∷ rest) = Some n
+first_answer (None ∷ rest) = first_answer rest
+
+-- The tests 2 to 9 in their order. The tests 7, of array files, and 8, of views, stand between the last two; there are no
+-- such items yet.
+abbrev pub refusal : List KernelHead → List ℕ → List Item → Option ℕ
+refusal kernels name items = first_answer (
+    surplus items
+    ∷ unbound items
+    ∷ unknown kernels name
+    ∷ stray (first_params kernels name) items
+    ∷ missing (first_params kernels name) items
+    ∷ unfitting kernels name items
+    ∷ [])
+
+-- a bound call: the number of the kernel in the list, the buffers' names and what they hold in word order, and what the
+-- kernel's parameters stand for
+pub record BoundMeaning : Type 0 where
+  pub kernel : ℕ
+  pub names : List (List ℕ)
+  pub arrays : List Array
+  pub args : List Bound
+
+-- the name of the buffer that is passed to a parameter
+abbrev pub source : List ℕ → Item → Option (List ℕ)
+source parameter (Buffer name words) = None
+source parameter (Argument own buffer) = if bytes_eq parameter own then Some buffer else None
+
+abbrev pub source_of : List Item → List ℕ → List ℕ
+source_of items parameter = slice_index_or (filter_map (source parameter) items) 0 []
+
+-- the whole of the buffer with this number
+abbrev pub whole : List Array → ℕ → Bound
+whole buffers number =
+    let n = length (slice_index_or (map (λ a. a.words) buffers) number []) in ArrayOf number (n ∷ []) (range_with_len 0 n)
+
+abbrev pub number_of : List Item → List ℕ → ℕ
+number_of items name = unwrap_or (position (bytes_eq name) (buffer_names items)) 0
+
+abbrev pub bound_to : List Item → List ℕ × ParamType → Bound
+bound_to items param = whole (arrays items) (number_of items (source_of items param.0))
+
+abbrev pub params_at : List KernelHead → ℕ → List (List ℕ × ParamType)
+params_at kernels k = slice_index_or (map (λ kernel. kernel.params) kernels) k []
+
+abbrev pub bound_at : List KernelHead → List Item → ℕ → BoundMeaning
+bound_at kernels items k = record {
+  kernel = k;
+  names = buffer_names items;
+  arrays = arrays items;
+  args = map (bound_to items) (params_at kernels k);
+}
+
+abbrev pub unless : Option ℕ → BoundMeaning → Result BoundMeaning ℕ
+unless None bound = Ok bound
+unless (Some n) bound = Err n
+
+-- Test 1, that every item is spelled well, comes before all others.
+abbrev pub checked : List KernelHead → List ℕ → Result (List Item) ℕ → Result BoundMeaning ℕ
+checked kernels name (Err n) = Err n
+checked kernels name (Ok items) =
+    unless (refusal kernels name items) (bound_at kernels items (unwrap_or (fitting kernels name items) 0))
+
+-- A call of the kernel of this name with the items of these texts, or the number of the refused one: from 1, and 0 where the
+-- kernel itself is at fault.
+abbrev pub bind : List KernelHead → List ℕ → List (List ℕ) → Result BoundMeaning ℕ
+bind kernels name texts = checked kernels name (read_from 1 texts)
