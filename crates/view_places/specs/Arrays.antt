@@ -1,7 +1,7 @@
 -- Arrays as lists of entries in row-major order, over shapes that are lists of extents from the first dimension.
 -- The rules are those of the NumPy reference (row-major order, broadcasting); the limit of 2^22 is this project's own.
 -- There are no strides and no offsets here.
-use Rattle.std.specs.Prelude.{◌≡◌, ℕ, ◌+◌, ◌-◌, ◌*◌, ◌^◌, ◌==◌, Bool, true, false, if◌then◌else◌, not, ◌&&◌, List, [], ◌∷◌, ◌++◌, map, length, take, drop, replicate, reverse, fold, max, filter, slice_index, slice_index_or, nat_le, Result, Ok, Err}
+use Rattle.std.specs.Prelude.{◌≡◌, ℕ, ◌+◌, ◌-◌, ◌*◌, ◌^◌, ◌==◌, Bool, true, false, if◌then◌else◌, not, ◌&&◌, List, [], ◌∷◌, ◌++◌, map, length, take, drop, replicate, reverse, fold, max, filter, slice_index, slice_index_or, slice_set, nat_lt, nat_le, ◌<◌, insert, remove, ℤ, pos, negsuc, Option, Some, None, Result, Ok, Err}
 use Rattle.std.specs.List.{flat_map, list_all, range_with_len}
 use Rattle.krn_base.specs.declared.fault.Fault.{Fault}
 use Rattle.krn_base.specs.declared.fault.Fault.TheVariants.{ValueError, SizeLimit}
@@ -74,3 +74,31 @@ broadcast_of shapes =
     if list_all (λ k. all_same (proper_extents k shapes)) (dimensions shapes)
     then (if is_small (joined_shape shapes) then Ok (joined_shape shapes) else Err SizeLimit)
     else Err ValueError
+
+-- an index inside a shape: as many numbers as there are dimensions, each below its extent
+abbrev pub Inside : List ℕ → List ℕ → Type 0
+Inside [] [] = Unit {0}
+Inside [] (i ∷ index) = ⊥
+Inside (n ∷ ns) [] = ⊥
+Inside (n ∷ ns) (i ∷ index) = (i < n) × Inside ns index
+
+-- which entry of a dimension with n entries a subscript names: from 0 at the first, or from -1 backwards at the last
+abbrev pub position_of : ℕ → ℤ → Option ℕ
+position_of n (pos i) = if nat_lt i n then Some i else None
+position_of n (negsuc i) = if nat_lt i n then Some (n - 1 - i) else None
+
+-- the entries that have the number i in a dimension, without that dimension
+abbrev pub at_index : {A : Type 0} → A → ℕ → ℕ → List ℕ → List A → List A
+at_index past axis i ns xs = map (λ index. entry past ns xs (insert index axis i)) (indices (remove ns axis))
+
+-- an index with another number in a dimension
+abbrev pub renumbered : ℕ → List ℕ → List ℕ → List ℕ
+renumbered axis picks index = slice_set index axis (slice_index picks (slice_index index axis))
+
+-- the entries that have one of the picked numbers in a dimension, in the order of the picks
+abbrev pub sliced : {A : Type 0} → A → ℕ → List ℕ → List ℕ → List A → List A
+sliced past axis picks ns xs = map (λ index. entry past ns xs (renumbered axis picks index)) (indices (slice_set ns axis (length picks)))
+
+-- the entries by reversed indices
+abbrev pub transposed : {A : Type 0} → A → List ℕ → List A → List A
+transposed past ns xs = map (λ index. entry past ns xs (reverse index)) (indices (reverse ns))

@@ -1,2 +1,6 @@
 pub mod Arrays
 pub mod Shape
+pub mod Slice
+pub mod Spread
+pub mod Strides
+pub mod View

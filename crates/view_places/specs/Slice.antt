@@ -1,0 +1,39 @@
+-- What a slice picks of a dimension, by the rules of Python's slice objects (`slice.indices`).
+use Rattle.std.specs.Prelude.{ℕ, zero, suc, ◌+◌, Bool, List, map, filter, if◌then◌else◌, ℤ, pos, negsuc, ◌+ℤ◌, ◌-ℤ◌, ◌*ℤ◌, int_lt, unsigned_abs, Option, Some, None, unwrap_or}
+use Rattle.std.specs.List.{range_with_len}
+use Rattle.std.specs.Int.{int_max, int_min}
+use Rattle.view_places.specs.declared.slice.Slice.{Slice}
+
+-- a bound counted from the front: n is added to a negative one
+abbrev pub from_front : ℕ → ℤ → ℤ
+from_front n (pos i) = pos i
+from_front n (negsuc i) = pos n +ℤ negsuc i
+
+-- the nearest number from `least` to `most`
+abbrev pub clip : ℤ → ℤ → ℤ → ℤ
+clip least most z = int_max least (int_min most z)
+
+-- whether a walk by a step stands before a stop
+abbrev pub is_before : ℤ → ℤ → ℤ → Bool
+is_before step stop i = if int_lt (pos 0) step then int_lt i stop else int_lt stop i
+
+-- the numbers from a start by a step that stand before a stop; of a dimension with n entries a walk meets n at most
+abbrev pub walk : ℕ → ℤ → ℤ → ℤ → List ℤ
+walk n start stop step = filter (is_before step stop) (map (λ k. start +ℤ (pos k *ℤ step)) (range_with_len 0 n))
+
+-- a bound that is given, counted from the front and clipped, or else the absent one
+abbrev pub bound : ℕ → ℤ → ℤ → ℤ → Option ℤ → ℤ
+bound n least most absent None = absent
+bound n least most absent (Some z) = clip least most (from_front n z)
+
+-- the numbers that a slice by a step picks of a dimension with n entries
+abbrev pub picks_by : ℕ → Slice → ℤ → Option (List ℕ)
+picks_by n s (pos zero) = None
+picks_by n s (pos (suc k)) =
+    Some (map unsigned_abs (walk n (bound n (pos 0) (pos n) (pos 0) s.start) (bound n (pos 0) (pos n) (pos n) s.stop) (pos (suc k))))
+picks_by n s (negsuc k) =
+    Some (map unsigned_abs (walk n (bound n (negsuc 0) (pos n -ℤ pos 1) (pos n -ℤ pos 1) s.start) (bound n (negsuc 0) (pos n -ℤ pos 1) (negsuc 0) s.stop) (negsuc k)))
+
+-- the numbers that a slice picks of a dimension with n entries, in its order; None at step 0
+abbrev pub slice_indices : ℕ → Slice → Option (List ℕ)
+slice_indices n s = picks_by n s (unwrap_or s.step (pos 1))
