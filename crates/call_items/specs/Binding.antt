@@ -1,18 +1,19 @@
 -- The binding of a call's items to a kernel. Its tests stand in their order, each over all items before the next one begins;
 -- the order and the limit of 16 buffers are this project's own.
-use Rattle.std.specs.Prelude.{ℕ, ◌+◌, ◌==◌, nat_le, Bool, true, false, not, ◌&&◌, ◌||◌, if◌then◌else◌, List, [], ◌∷◌, ◌++◌, map, length, slice_index_or, Option, Some, None, option_map, Result, Ok, Err, ℤ, bytes_eq}
+use Rattle.std.specs.Prelude.{ℕ, ◌+◌, ◌==◌, nat_le, ◌≤◌, ◌^◌, Bool, true, false, not, ◌&&◌, ◌||◌, if◌then◌else◌, List, [], ◌∷◌, ◌++◌, map, length, slice_index_or, Option, Some, None, option_map, Result, Ok, Err, ℤ, bytes_eq}
 use Rattle.std.specs.List.{list_any, position, find, filter_map, count_by, range_with_len}
-use Rattle.std.specs.Option.{unwrap_or, is_some}
+use Rattle.std.specs.Option.{unwrap_or, is_some, option_and_then}
 use Rattle.krn_base.specs.declared.kind.Kind.TheVariants.{Int64, Bool as BoolKind}
 use Rattle.krn_base.specs.declared.kind.ParamType.{ParamType}
 use Rattle.krn_base.specs.declared.kind.ParamType.TheVariants.{Scalar, Flat, Strided}
 use Rattle.view_places.specs.declared.shape.Array.{Array}
-use Rattle.eager_rules.specs.State.{Bound, ArrayOf}
+use Rattle.eager_rules.specs.State.{Bound, ArrayOf, bound_to}
 use Rattle.eager_rules.specs.Eager.{shape_of}
 use Rattle.call_items.specs.Reading.{read_from}
+use Rattle.call_items.specs.declared.head.BoundCall.{BoundCall}
 use Rattle.call_items.specs.declared.head.KernelHead.{KernelHead}
-use Rattle.call_items.specs.declared.item.Item.{Item}
-use Rattle.call_items.specs.declared.item.Item.TheVariants.{Buffer, Argument}
+use Rattle.call_items.specs.declared.items.Item.{Item}
+use Rattle.call_items.specs.declared.items.Item.TheVariants.{Buffer, Argument}
 
 -- an item gives the buffer of this name; it gives some buffer; it is for this parameter
 abbrev pub is_buffer_named : List ℕ → Item → Bool
@@ -61,6 +62,14 @@ array_of (Argument parameter buffer) = None
 abbrev pub arrays : List Item → List Array
 arrays items = filter_map array_of items
 
+-- the arguments in word order: parameter and buffer
+abbrev pub passed_by : Item → Option (List ℕ × List ℕ)
+passed_by (Buffer name words) = None
+passed_by (Argument parameter buffer) = Some (parameter, buffer)
+
+abbrev pub passed : List Item → List (List ℕ × List ℕ)
+passed items = filter_map passed_by items
+
 -- Test 3. An argument has a name that no buffer has.
 abbrev pub is_unbound : List (List ℕ) → Item → Bool
 is_unbound names (Buffer name words) = false
@@ -73,16 +82,20 @@ unbound items = numbered (position (is_unbound (buffer_names items)) items)
 abbrev pub is_named : List ℕ → KernelHead → Bool
 is_named name kernel = bytes_eq name kernel.name
 
-abbrev pub unknown : List KernelHead → List ℕ → Option ℕ
-unknown kernels name = if list_any (is_named name) kernels then None else Some 0
+abbrev pub first_named : List KernelHead → List ℕ → Option KernelHead
+first_named kernels name = find (is_named name) kernels
 
--- the parameters of the first kernel of the name
+abbrev pub unknown : Option KernelHead → Option ℕ
+unknown None = Some 0
+unknown (Some kernel) = None
+
 abbrev pub params_of : Option KernelHead → List (List ℕ × ParamType)
 params_of None = []
 params_of (Some kernel) = kernel.params
 
+-- the parameters of the first kernel of the name
 abbrev pub first_params : List KernelHead → List ℕ → List (List ℕ × ParamType)
-first_params kernels name = params_of (find (is_named name) kernels)
+first_params kernels name = params_of (first_named kernels name)
 
 -- Test 5. An item is for a parameter that isn't among these.
 abbrev pub is_stray : List (List ℕ × ParamType) → Item → Bool
@@ -126,17 +139,22 @@ first_answer [] = None
 first_answer (Some n ∷ rest) = Some n
 first_answer (None ∷ rest) = first_answer rest
 
--- The tests 2 to 9 in their order. The tests 7, of array files, and 8, of views, stand between the last two; there are no
+-- The tests 4 to 9 in their order. The tests 7, of array files, and 8, of views, stand before the last one; there are no
 -- such items yet.
-abbrev pub refusal : List KernelHead → List ℕ → List Item → Option ℕ
-refusal kernels name items = first_answer (
-    surplus items
-    ∷ unbound items
-    ∷ unknown kernels name
+abbrev pub kernel_tests : List KernelHead → List ℕ → List Item → List (Option ℕ)
+kernel_tests kernels name items =
+    unknown (first_named kernels name)
     ∷ stray (first_params kernels name) items
     ∷ missing (first_params kernels name) items
     ∷ unfitting kernels name items
-    ∷ [])
+    ∷ []
+
+abbrev pub kernel_refusal : List KernelHead → List ℕ → List Item → Option ℕ
+kernel_refusal kernels name items = first_answer (kernel_tests kernels name items)
+
+-- The tests 2 to 9 in their order.
+abbrev pub refusal : List KernelHead → List ℕ → List Item → Option ℕ
+refusal kernels name items = first_answer (surplus items ∷ unbound items ∷ kernel_tests kernels name items)
 
 -- a bound call: the number of the kernel in the list, the buffers' names and what they hold in word order, and what the
 -- kernel's parameters stand for
@@ -146,24 +164,19 @@ pub record BoundMeaning : Type 0 where
   pub arrays : List Array
   pub args : List Bound
 
--- the name of the buffer that is passed to a parameter
-abbrev pub source : List ℕ → Item → Option (List ℕ)
-source parameter (Buffer name words) = None
-source parameter (Argument own buffer) = if bytes_eq parameter own then Some buffer else None
-
-abbrev pub source_of : List Item → List ℕ → List ℕ
-source_of items parameter = slice_index_or (filter_map (source parameter) items) 0 []
-
 -- the whole of the buffer with this number
 abbrev pub whole : List Array → ℕ → Bound
-whole buffers number =
-    let n = length (slice_index_or (map (λ a. a.words) buffers) number []) in ArrayOf number (n ∷ []) (range_with_len 0 n)
+whole arrays number =
+    let n = length (slice_index_or (map (λ a. a.words) arrays) number []) in ArrayOf number (n ∷ []) (range_with_len 0 n)
 
-abbrev pub number_of : List Item → List ℕ → ℕ
-number_of items name = unwrap_or (position (bytes_eq name) (buffer_names items)) 0
+-- the number of the buffer that is passed to a parameter
+abbrev pub buffer_for : List (List ℕ × List ℕ) → List (List ℕ) → List ℕ → Option ℕ
+buffer_for passed names parameter =
+    option_and_then (λ argument. position (bytes_eq argument.1) names) (find (λ argument. bytes_eq parameter argument.0) passed)
 
-abbrev pub bound_to : List Item → List ℕ × ParamType → Bound
-bound_to items param = whole (arrays items) (number_of items (source_of items param.0))
+-- what a parameter stands for
+abbrev pub given : List (List ℕ × List ℕ) → List (List ℕ) → List Array → List ℕ × ParamType → Bound
+given passed names buffers param = whole buffers (unwrap_or (buffer_for passed names param.0) 0)
 
 abbrev pub params_at : List KernelHead → ℕ → List (List ℕ × ParamType)
 params_at kernels k = slice_index_or (map (λ kernel. kernel.params) kernels) k []
@@ -173,12 +186,16 @@ bound_at kernels items k = record {
   kernel = k;
   names = buffer_names items;
   arrays = arrays items;
-  args = map (bound_to items) (params_at kernels k);
+  args = map (given (passed items) (buffer_names items) (arrays items)) (params_at kernels k);
 }
 
 abbrev pub unless : Option ℕ → BoundMeaning → Result BoundMeaning ℕ
 unless None bound = Ok bound
 unless (Some n) bound = Err n
+
+-- an array has at most 2^22 elements
+abbrev pub IsSmall : Array → Type 0
+IsSmall array = length array.words ≤ 2 ^ 22
 
 -- Test 1, that every item is spelled well, comes before all others.
 abbrev pub checked : List KernelHead → List ℕ → Result (List Item) ℕ → Result BoundMeaning ℕ
@@ -190,3 +207,16 @@ checked kernels name (Ok items) =
 -- kernel itself is at fault.
 abbrev pub bind : List KernelHead → List ℕ → List (List ℕ) → Result BoundMeaning ℕ
 bind kernels name texts = checked kernels name (read_from 1 texts)
+
+-- what a bound call stands for
+abbrev pub meaning : BoundCall → BoundMeaning
+meaning bound = record {
+  kernel = bound.kernel;
+  names = bound.names;
+  arrays = bound.call.buffers;
+  args = map bound_to bound.call.args;
+}
+
+abbrev pub answer : Result BoundCall ℕ → Result BoundMeaning ℕ
+answer (Ok bound) = Ok (meaning bound)
+answer (Err n) = Err n

@@ -1,12 +1,12 @@
 -- What one item of a call says. `buf:NAME=` and integers make a buffer, `NAME=@NAME` passes a buffer to a parameter. These
 -- forms and the limit of 2^22 elements are this project's own; a name is an ASCII identifier of Python, and may be a keyword.
-use Rattle.std.specs.Prelude.{ℕ, ◌+◌, ◌^◌, ◌==◌, nat_le, Bool, false, not, ◌&&◌, ◌||◌, if◌then◌else◌, List, [], ◌∷◌, length, take, drop, codes, Option, Some, None, option_map, Result, Ok, Err, ℤ}
+use Rattle.std.specs.Prelude.{ℕ, ◌+◌, ◌^◌, ◌≤◌, ◌==◌, nat_le, Bool, false, not, ◌&&◌, ◌||◌, if◌then◌else◌, List, [], ◌∷◌, length, take, drop, codes, Option, Some, None, option_map, Result, Ok, Err, ℤ}
 use Rattle.std.specs.Char.{is_ascii_alphabetic, is_ascii_alphanumeric}
 use Rattle.std.specs.List.{list_any, position}
 use Rattle.std.specs.Option.{option_and_then}
 use Rattle.call_items.specs.Integers.{elements}
-use Rattle.call_items.specs.declared.item.Item.{Item}
-use Rattle.call_items.specs.declared.item.Item.TheVariants.{Buffer, Argument}
+use Rattle.call_items.specs.declared.items.Item.{Item}
+use Rattle.call_items.specs.declared.items.Item.TheVariants.{Buffer, Argument}
 
 -- a letter or `_` (95)
 abbrev pub begins_name : ℕ → Bool
@@ -59,3 +59,8 @@ read_next n (Some x) (Ok xs) = Ok (x ∷ xs)
 abbrev pub read_from : ℕ → List (List ℕ) → Result (List Item) ℕ
 read_from n [] = Ok []
 read_from n (text ∷ texts) = read_next n (item text) (read_from (n + 1) texts)
+
+-- a buffer has at most 2^22 elements
+abbrev pub IsShort : Item → Type 0
+IsShort (Buffer name words) = length words ≤ 2 ^ 22
+IsShort (Argument parameter buffer) = Unit {0}

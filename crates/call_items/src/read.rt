@@ -1,10 +1,11 @@
 ghost use Rattle.std.specs.Prelude.{◌≡◌, ◌<◌, ◌^◌, IfOk, option_map, length, map, codes, nat_le};
+ghost use Rattle.std.specs.List.{All};
 ghost use Rattle.std.specs.String.{string_bytes};
-ghost use Rattle.call_items.specs.Reading.{is_name, item, cut, after, buffer_item, argument_item, by_sides, read_from};
+ghost use Rattle.call_items.specs.Reading.{is_name, item, cut, after, buffer_item, argument_item, by_sides, read_from, IsShort};
 ghost use Rattle.call_items.specs.Integers.{elements};
 
 use crate::integer::read_elements;
-use crate::item::Item;
+use crate::items::Item;
 use krn_base::{Seq, Text};
 use std::alloc::{AllocError, Global};
 
@@ -136,9 +137,10 @@ fn read_item(alloc: Global, text: &str) -> Result<Option<Item>, AllocError>
 }
 
 /// The items of some words, or the number from 1 of the first word that is misspelled.
-fn read_items(alloc: Global, texts: &[String]) -> Result<Result<Seq<Item>, u32>, AllocError>
+pub fn read_items(alloc: Global, texts: &[String]) -> Result<Result<Seq<Item>, u32>, AllocError>
     requires { length texts.now < 2 ^ 31 }
-    ensures { IfOk result (λ read. read ≡ read_from 1 (map string_bytes texts.now)) }
+    ensures items { IfOk result (λ read. read ≡ read_from 1 (map string_bytes texts.now)) }
+    ensures short { IfOk result (λ read. IfOk read (λ items. All IsShort items)) }
 {
     let mut items = Vec::new(alloc);
     for (at, text) in texts.iter().enumerate() {
