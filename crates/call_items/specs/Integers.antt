@@ -6,6 +6,10 @@ use Rattle.std.specs.List.{slice_split}
 use Rattle.std.specs.Str.{all_ascii_digits}
 use Rattle.std.specs.Str.Parse.{signed_digits_value}
 
+-- no decimal digit
+abbrev pub is_no_digit : ℕ → Bool
+is_no_digit c = not (is_ascii_digit c)
+
 -- decimal digits without a leading zero: one digit, or several of which the first isn't `0` (48)
 abbrev pub is_decimal : List ℕ → Bool
 is_decimal [] = false

@@ -1,5 +1,7 @@
 ghost use Rattle.std.specs.Prelude.{◌≡◌, Option, Some, option_map, IfOk, ℤ};
+ghost use Rattle.std.specs.List.{list_any};
 ghost use Rattle.std.specs.Str.{all_ascii_digits};
+ghost use Rattle.call_items.specs.Integers as Integers;
 ghost use Rattle.call_items.specs.Integers.{is_decimal, is_signed_decimal, integer, elements};
 ghost use Rattle.call_items.specs.Reading.{cut};
 
@@ -17,10 +19,23 @@ fn is_plain(text: &[u8]) -> bool
     }
 }
 
+fn is_no_digit(byte: &u8) -> bool
+    ensures { result ≡ Integers.is_no_digit byte.now }
+{
+    !byte.is_ascii_digit()
+}
+
+fn any_other(text: &[u8]) -> bool
+    ensures { result ≡ list_any Integers.is_no_digit text.now }
+{
+    text.iter().any(|byte| is_no_digit(byte))
+}
+
+#[tactic(auto, using(crate::proofs::Digits::none_other))]
 fn all_digits(text: &[u8]) -> bool
     ensures { result ≡ all_ascii_digits text.now }
 {
-    text.iter().all(|byte| byte.is_ascii_digit())
+    !any_other(text)
 }
 
 /// Whether a text is such digits, after a `-` or none.
@@ -36,6 +51,7 @@ fn has_integer_form(text: &[u8]) -> bool
 
 /// The integer that a text is: decimal digits without a leading zero, after a `-` or none, whose number lies from -2^63 to
 /// 2^63-1. `-0` is one. None where the text is another one.
+#[tactic(auto, using(crate::proofs::Digits::parsed))]
 pub fn read_integer(text: &str) -> Option<i64>
     ensures { result ≡ integer text.now }
 {

@@ -135,11 +135,12 @@ fn buffer_names(alloc: Global, items: &[Item]) -> Result<Vec<&[u8]>, AllocError>
 }
 
 fn is_among(name: &[u8], names: &[&[u8]]) -> bool
-    ensures { result ≡ list_any (bytes_eq name.now) (map (λ own. own.now) names.now) }
+    ensures { result ≡ list_any (λ own. bytes_eq name.now own.now) names.now }
 {
     names.iter().any(|own| same_bytes(name, *own))
 }
 
+#[tactic(auto, using(crate::proofs::Lists::any_in_map))]
 fn is_unbound(names: &[&[u8]], item: &Item) -> bool
     ensures { result ≡ spec.is_unbound (map (λ own. own.now) names.now) item.now }
 {

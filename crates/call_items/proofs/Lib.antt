@@ -1,0 +1,3 @@
+pub mod Commas
+pub mod Digits
+pub mod Lists
