@@ -17,7 +17,7 @@ use Rattle.call_items.specs.declared.items.Item.TheVariants.{Buffer, Argument}
 
 -- an item gives the buffer of this name; it gives some buffer; it is for this parameter
 abbrev pub is_buffer_named : List ℕ → Item → Bool
-is_buffer_named name (Buffer own words) = bytes_eq name own
+is_buffer_named name (Buffer own words) = bytes_eq own name
 is_buffer_named name (Argument parameter buffer) = false
 
 abbrev pub is_buffer : Item → Bool
@@ -26,7 +26,7 @@ is_buffer (Argument parameter buffer) = false
 
 abbrev pub is_argument_for : List ℕ → Item → Bool
 is_argument_for parameter (Buffer name words) = false
-is_argument_for parameter (Argument own buffer) = bytes_eq parameter own
+is_argument_for parameter (Argument own buffer) = bytes_eq own parameter
 
 -- the number from 1 of an item at a place from 0
 abbrev pub numbered : Option ℕ → Option ℕ
@@ -172,7 +172,7 @@ whole arrays number =
 -- the number of the buffer that is passed to a parameter
 abbrev pub buffer_for : List (List ℕ × List ℕ) → List (List ℕ) → List ℕ → Option ℕ
 buffer_for passed names parameter =
-    option_and_then (λ argument. position (bytes_eq argument.1) names) (find (λ argument. bytes_eq parameter argument.0) passed)
+    option_and_then (λ argument. position (bytes_eq argument.1) names) (find (λ argument. bytes_eq argument.0 parameter) passed)
 
 -- what a parameter stands for
 abbrev pub given : List (List ℕ × List ℕ) → List (List ℕ) → List Array → List ℕ × ParamType → Bound

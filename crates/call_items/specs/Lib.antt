@@ -2,3 +2,4 @@ pub mod Integers
 pub mod Reading
 pub mod Binding
 pub mod Parameters
+pub mod Row

@@ -1,9 +1,11 @@
-ghost use Rattle.std.specs.Prelude.{◌≡◌, ◌<◌, ◌≤◌, ◌^◌, ◌∷◌, [], IfOk, length, map, option_map, slice_index_or, bytes_eq};
-ghost use Rattle.std.specs.List.{All, find, position};
+ghost use Rattle.std.specs.Prelude.{◌≡◌, ◌<◌, ◌≤◌, ◌^◌, ◌∷◌, [], IfOk, length, map, option_map, slice_index_or, bytes_eq, Ok, None};
+ghost use Rattle.std.specs.List.{All, find, position, range_with_len};
+ghost use Rattle.std.specs.Option.{unwrap_or};
 ghost use Rattle.std.specs.String.{string_bytes};
 ghost use Rattle.eager_rules.specs.Eager.{shape_of};
-ghost use Rattle.eager_rules.specs.State.{bound_to};
+ghost use Rattle.eager_rules.specs.State.{bound_to, ArrayOf};
 ghost use Rattle.call_items.specs.Binding as spec;
+ghost use Rattle.call_items.specs.Row.{step_of};
 ghost use Rattle.call_items.specs.Reading.{IsShort};
 
 use crate::head::{BoundCall, KernelHead};
@@ -49,7 +51,7 @@ fn row(words: Seq<i64>) -> Array
 /// The items' parts. Each buffer's words are moved.
 fn take_apart(alloc: Global, items: Seq<Item>) -> Result<Parts, AllocError>
     requires { All IsShort items }
-    ensures { IfOk result (λ parts. parts ≡ record { names = spec.buffer_names items; arrays = spec.arrays items; passed = spec.passed items }) }
+    ensures parts { IfOk result (λ parts. parts ≡ record { names = spec.buffer_names items; arrays = spec.arrays items; passed = spec.passed items }) }
 {
     let mut names = Vec::new(alloc);
     let mut arrays = Vec::new(alloc);
@@ -71,11 +73,11 @@ fn take_apart(alloc: Global, items: Seq<Item>) -> Result<Parts, AllocError>
 }
 
 fn passed_to<'a>(passed: &'a [(Text, Text)], parameter: &[u8]) -> Option<&'a (Text, Text)>
-    ensures { option_map (λ argument. argument.now) result ≡ find (λ argument. bytes_eq parameter.now argument.0) passed.now }
+    ensures { option_map (λ argument. argument.now) result ≡ find (λ argument. bytes_eq argument.0 parameter.now) passed.now }
 {
     passed
         .iter()
-        .find(|argument| same_bytes(parameter, argument.0.as_slice()))
+        .find(|argument| same_bytes(argument.0.as_slice(), parameter))
 }
 
 fn place_of_name(names: &[Text], name: &[u8]) -> Option<usize>
@@ -98,7 +100,8 @@ fn buffer_for(parts: &Parts, parameter: &[u8]) -> Option<usize>
 
 fn length_of(arrays: &[Array], number: usize) -> u32
     requires { All spec.IsSmall arrays.now }
-    ensures { result ≡ length (slice_index_or (map (λ a. a.words) arrays.now) number []) }
+    ensures length { result ≡ length (slice_index_or (map (λ a. a.words) arrays.now) number []) }
+    ensures small { result ≤ 2 ^ 22 }
 {
     match arrays.get(number) {
         Some(array) => array.words.as_slice().len() as u32,
@@ -106,18 +109,27 @@ fn length_of(arrays: &[Array], number: usize) -> u32
     }
 }
 
-/// The whole of a row, until the view's own call is there.
-fn whole(buffer: u32, shape: &Shape) -> View
-    requires { spec.IsRowShape shape.now }
-    ensures { bound_to (Arg.Array result) ≡ ArrayOf buffer (slice_index shape.now.extent 0 ∷ []) (range_with_len 0 (slice_index shape.now.extent 0)) }
+/// A row of one element or none needs no step.
+fn step(length: u32) -> i64
+    ensures { result ≡ step_of length }
+{
+    if length <= 1 { 0 } else { 1 }
+}
+
+/// The whole of a row.
+fn whole(buffer: u32, length: u32) -> View
+    requires { length ≤ 2 ^ 22 }
+    ensures places { bound_to (Arg.Array result) ≡ ArrayOf buffer (length ∷ []) (range_with_len 0 length) }
+    ensures length { result.length ≡ length }
+    ensures rank { result.rank ≡ 1 }
 {
     View {
         buffer,
-        length: shape.extent[0],
+        length,
         offset: 0,
         rank: 1,
-        extent: shape.extent,
-        stride: [if shape.extent[0] <= 1 { 0 } else { 1 }, 0, 0, 0],
+        extent: [length, 1, 1, 1],
+        stride: [step(length), 0, 0, 0],
     }
 }
 
@@ -129,7 +141,7 @@ fn given(parts: &Parts, param: &(Text, ParamType)) -> Arg
 {
     let number = buffer_for(parts, param.0.as_slice()).unwrap_or(0);
     let length = length_of(parts.arrays.as_slice(), number);
-    Arg::Array(whole(number as u32, &row_shape(length)))
+    Arg::Array(whole(number as u32, length))
 }
 
 fn all_given(
@@ -149,6 +161,7 @@ fn all_given(
 }
 
 /// The call of the kernel at a place, with items that bind to it.
+#[tactic(auto, using(crate::proofs::Parts::few_names, crate::proofs::Parts::small_arrays))]
 fn bind_at(
     alloc: Global,
     kernels: &[KernelHead],
@@ -174,6 +187,43 @@ fn bind_at(
     })
 }
 
+/// The call of the first kernel that fits items which no test refuses.
+fn bind_fitting(
+    alloc: Global,
+    kernels: &[KernelHead],
+    name: &[u8],
+    items: Seq<Item>,
+) -> Result<Result<BoundCall, u32>, AllocError>
+    requires kernels { length kernels.now < 2 ^ 31 }
+    requires items { length items < 2 ^ 31 }
+    requires short { All IsShort items }
+    requires fine { spec.refusal kernels.now name.now items ≡ None }
+    ensures { IfOk result (λ bound. spec.answer bound ≡ Ok (spec.bound_at kernels.now items (unwrap_or (spec.fitting kernels.now name.now items) 0))) }
+{
+    match fitting(kernels, name, items.as_slice()) {
+        Some(at) => Ok(Ok(bind_at(alloc, kernels, at, items)?)),
+        None => Ok(Err(0)),
+    }
+}
+
+/// The call, or the number of the item that a test refuses.
+fn bind_items(
+    alloc: Global,
+    kernels: &[KernelHead],
+    name: &[u8],
+    items: Seq<Item>,
+) -> Result<Result<BoundCall, u32>, AllocError>
+    requires kernels { length kernels.now < 2 ^ 31 }
+    requires items { length items < 2 ^ 31 }
+    requires short { All IsShort items }
+    ensures { IfOk result (λ bound. spec.answer bound ≡ spec.checked kernels.now name.now (Ok items)) }
+{
+    match refusal(alloc, kernels, name, items.as_slice())? {
+        Some(number) => Ok(Err(number)),
+        None => bind_fitting(alloc, kernels, name, items),
+    }
+}
+
 /// Binds the words behind a module and a kernel to a call of the first kernel of that name that they fit.
 ///
 /// The inner error is the number of the item that is refused, from 1, or 0 where the kernel itself is at fault. Each test goes
@@ -194,16 +244,8 @@ pub fn bind(
     requires items { length items.now < 2 ^ 31 }
     ensures { IfOk result (λ bound. spec.answer bound ≡ spec.bind kernels.now kernel.now (map string_bytes items.now)) }
 {
-    let items = match read_items(alloc, items)? {
-        Ok(items) => items,
-        Err(number) => return Ok(Err(number)),
-    };
-    let name = kernel.as_bytes();
-    if let Some(number) = refusal(alloc, kernels, name, items.as_slice())? {
-        return Ok(Err(number));
-    }
-    match fitting(kernels, name, items.as_slice()) {
-        Some(at) => Ok(Ok(bind_at(alloc, kernels, at, items)?)),
-        None => Ok(Err(0)),
+    match read_items(alloc, items)? {
+        Ok(items) => Ok(bind_items(alloc, kernels, kernel.as_bytes(), items)?),
+        Err(number) => Ok(Err(number)),
     }
 }

@@ -1,7 +1,7 @@
-ghost use Rattle.std.specs.Prelude.{◌≡◌, ◌<◌, ◌^◌, ◌++◌, ◌∷◌, [], ◌||◌, false, IfOk, IfSome, length, map, nat_le, bytes_eq, option_map};
+ghost use Rattle.std.specs.Prelude.{◌≡◌, ◌<◌, ◌^◌, ◌++◌, ◌∷◌, [], ◌||◌, IfOk, OnOk, IfSome, List, ℕ, length, map, nat_le, bytes_eq, option_map};
 ghost use Rattle.std.specs.List.{list_any, count_by, position};
 ghost use Rattle.call_items.specs.Binding as spec;
-ghost use Rattle.call_items.specs.Parameters.{HasParameters};
+ghost use Rattle.call_items.specs.Parameters.{HasParameters, has};
 
 use crate::head::KernelHead;
 use crate::items::Item;
@@ -22,7 +22,7 @@ fn is_buffer_named(name: &[u8], item: &Item) -> bool
     ensures { result ≡ spec.is_buffer_named name.now item.now }
 {
     match item {
-        Item::Buffer { name: own, .. } => same_bytes(name, own.as_slice()),
+        Item::Buffer { name: own, .. } => same_bytes(own.as_slice(), name),
         Item::Argument { .. } => false,
     }
 }
@@ -41,7 +41,7 @@ fn is_argument_for(parameter: &[u8], item: &Item) -> bool
 {
     match item {
         Item::Buffer { .. } => false,
-        Item::Argument { parameter: own, .. } => same_bytes(parameter, own.as_slice()),
+        Item::Argument { parameter: own, .. } => same_bytes(own.as_slice(), parameter),
     }
 }
 
@@ -76,6 +76,17 @@ fn is_surplus_buffer(name: &[u8], before: &[Item]) -> bool
     any_buffer_named(name, before) || has_most_buffers(before)
 }
 
+/// Whether a parameter is among the keys already; it is then.
+fn is_met<'a>(
+    parameter: &'a Text,
+    parameters: &mut BTreeMap<&'a [u8], ()>,
+) -> Result<bool, AllocError>
+    ensures answer { IfOk result (λ met. met ≡ has parameters.old parameter.now) }
+    ensures others { OnOk result ((q : List ℕ) → has parameters.new q ≡ (has parameters.old q || bytes_eq parameter.now q)) }
+{
+    Ok(parameters.insert(parameter.as_slice(), ())?.is_some())
+}
+
 /// Whether an item is one too many behind others, whose parameters are the keys; its own is then one too.
 fn is_surplus<'a>(
     item: &'a Item,
@@ -84,13 +95,11 @@ fn is_surplus<'a>(
 ) -> Result<bool, AllocError>
     requires { HasParameters parameters.old before.now }
     ensures answer { IfOk result (λ surplus. surplus ≡ spec.is_surplus before.now item.now) }
-    ensures parameters { IfOk result (λ surplus. surplus ≡ false → HasParameters parameters.new (before.now ++ item.now ∷ [])) }
+    ensures parameters { OnOk result (HasParameters parameters.new (before.now ++ item.now ∷ [])) }
 {
     match item {
         Item::Buffer { name, .. } => Ok(is_surplus_buffer(name.as_slice(), before)),
-        Item::Argument { parameter, .. } => {
-            Ok(parameters.insert(parameter.as_slice(), ())?.is_some())
-        }
+        Item::Argument { parameter, .. } => is_met(parameter, parameters),
     }
 }
 
@@ -120,16 +129,24 @@ fn numbered(at: Option<usize>) -> Option<u32>
     }
 }
 
+/// Adds an item's name where it is a buffer.
+fn push_name<'a>(names: &mut Vec<&'a [u8]>, item: &'a Item) -> Result<(), AllocError>
+    ensures { OnOk result (map (λ name. name.now) names.new.items ≡ map (λ name. name.now) names.old.items ++ spec.buffer_names (item.now ∷ [])) }
+{
+    match item {
+        Item::Buffer { name, .. } => names.push(name.as_slice())?,
+        Item::Argument { .. } => {}
+    }
+    Ok(())
+}
+
 /// The names of the buffers, in their order.
 fn buffer_names(alloc: Global, items: &[Item]) -> Result<Vec<&[u8]>, AllocError>
     ensures { IfOk result (λ names. map (λ name. name.now) names.items ≡ spec.buffer_names items.now) }
 {
     let mut names = Vec::new(alloc);
     for item in items {
-        match item {
-            Item::Buffer { name, .. } => names.push(name.as_slice())?,
-            Item::Argument { .. } => {}
-        }
+        push_name(&mut names, item)?;
     }
     Ok(names)
 }
@@ -265,7 +282,8 @@ fn fits(name: &[u8], items: &[Item], kernel: &KernelHead) -> bool
 
 /// The place of the first kernel of the name that fits.
 pub fn fitting(kernels: &[KernelHead], name: &[u8], items: &[Item]) -> Option<usize>
-    ensures { result ≡ spec.fitting kernels.now name.now items.now }
+    ensures place { result ≡ spec.fitting kernels.now name.now items.now }
+    ensures within { IfSome result (λ at. at < length kernels.now) }
 {
     kernels.iter().position(|kernel| fits(name, items, kernel))
 }

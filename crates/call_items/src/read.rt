@@ -1,4 +1,4 @@
-ghost use Rattle.std.specs.Prelude.{◌≡◌, ◌<◌, ◌^◌, IfOk, option_map, length, map, codes, nat_le};
+ghost use Rattle.std.specs.Prelude.{◌≡◌, ◌<◌, ◌≤◌, ◌^◌, IfOk, option_map, length, map, codes, nat_le};
 ghost use Rattle.std.specs.List.{All};
 ghost use Rattle.std.specs.String.{string_bytes};
 ghost use Rattle.call_items.specs.Reading.{is_name, item, cut, after, buffer_item, argument_item, by_sides, read_from, IsShort};
@@ -140,6 +140,7 @@ fn read_item(alloc: Global, text: &str) -> Result<Option<Item>, AllocError>
 pub fn read_items(alloc: Global, texts: &[String]) -> Result<Result<Seq<Item>, u32>, AllocError>
     requires { length texts.now < 2 ^ 31 }
     ensures items { IfOk result (λ read. read ≡ read_from 1 (map string_bytes texts.now)) }
+    ensures few { IfOk result (λ read. IfOk read (λ items. length items ≤ length texts.now)) }
     ensures short { IfOk result (λ read. IfOk read (λ items. All IsShort items)) }
 {
     let mut items = Vec::new(alloc);
