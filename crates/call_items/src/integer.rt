@@ -1,8 +1,9 @@
-ghost use Rattle.std.specs.Prelude.{◌≡◌, Option, Some, option_map, IfOk, ℤ};
+ghost use Rattle.std.specs.Prelude.{◌≡◌, Option, Some, option_map, IfOk, ℤ, true};
 ghost use Rattle.std.specs.List.{list_any};
+ghost use Rattle.std.specs.Fmt.{signed_decimal};
 ghost use Rattle.std.specs.Str.{all_ascii_digits};
 ghost use Rattle.call_items.specs.Integers as Integers;
-ghost use Rattle.call_items.specs.Integers.{is_decimal, is_signed_decimal, integer, elements};
+ghost use Rattle.call_items.specs.Integers.{is_decimal, is_signed_decimal, is_word, integer, elements};
 ghost use Rattle.call_items.specs.Reading.{cut};
 
 use krn_base::Seq;
@@ -51,9 +52,10 @@ fn has_integer_form(text: &[u8]) -> bool
 
 /// The integer that a text is: decimal digits without a leading zero, after a `-` or none, whose number lies from -2^63 to
 /// 2^63-1. `-0` is one. None where the text is another one.
-#[tactic(auto, using(crate::proofs::Digits::parsed))]
+#[tactic(auto, using(crate::proofs::Digits::parsed, crate::proofs::Digits::printed))]
 pub fn read_integer(text: &str) -> Option<i64>
-    ensures { result ≡ integer text.now }
+    ensures value { result ≡ integer text.now }
+    ensures printed { (z : ℤ) → is_word z ≡ true → integer (signed_decimal z) ≡ Some z }
 {
     if has_integer_form(text.as_bytes()) {
         text.parse::<i64>().ok()
