@@ -1,0 +1,6 @@
+pub mod Commas
+pub mod Digits
+pub mod Lists
+pub mod Parts
+pub mod Row
+pub mod Turns

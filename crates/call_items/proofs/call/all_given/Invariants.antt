@@ -1,0 +1,7 @@
+use Rattle.std.proofs.Common.{◌≡◌, ℕ, map, take}
+use Rattle.eager_rules.specs.State.{bound_to}
+use Rattle.call_items.specs.Binding.{given}
+use Rattle.call_items.proofs.call.all_given.Given as goal
+
+abbrev pub invariant-loop-param : goal.invariant-loop-param
+invariant-loop-param l = map bound_to l.args.items ≡ map (given l.parts.passed l.parts.names l.parts.arrays) (take l.param-index l.params)

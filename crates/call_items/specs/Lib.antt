@@ -1,0 +1,5 @@
+pub mod Integers
+pub mod Reading
+pub mod Binding
+pub mod Parameters
+pub mod Row
