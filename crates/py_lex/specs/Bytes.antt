@@ -1,7 +1,7 @@
 -- The bytes of a source, and where its lines end. Python's language reference, "Lexical analysis", with ASCII alone outside
 -- comments and texts.
 use Rattle.std.specs.Prelude.{ℕ, ◌+◌, Bool, ◌||◌, ◌&&◌, List, [], ◌∷◌, ◌==◌, if◌then◌else◌, slice_index}
-use Rattle.std.specs.List.{prefix_len}
+use Rattle.std.specs.List.{prefix_len, list_all}
 use Rattle.std.specs.Char.{is_ascii_digit, is_ascii_hexdigit, is_ascii_alphanumeric}
 use Rattle.py_lex.specs.declared.bytes.Set.{Set}
 use Rattle.py_lex.specs.declared.bytes.Set.TheVariants.{Space, Tab, Blank, Digit, Hexadecimal, Word, Number}
@@ -22,6 +22,10 @@ is_in Number b = is_ascii_alphanumeric b || (b == 95 || b == 46)
 -- how many bytes of the set stand at the front
 abbrev pub run : Set → Bytes → ℕ
 run set z = prefix_len (is_in set) z
+
+-- all bytes are of the set
+abbrev pub are_in : Set → Bytes → Bool
+are_in set z = list_all (is_in set) z
 
 -- How many bytes the line end at the front has: 1 for LF, 2 for CR LF, 0 where there is none. (10 is LF, 13 is CR.)
 abbrev pub line_end : Bytes → ℕ

@@ -1,5 +1,5 @@
 -- The tokens of a source: its pieces, laid out in lines and blocks. Python's language reference, "Lexical analysis".
-use Rattle.std.specs.Prelude.{◌≡◌, ℕ, suc, zero, ◌+◌, ◌-◌, Bool, List, [], ◌∷◌, ◌++◌, ◌==◌, nat_lt, nat_le, if◌then◌else◌, slice_index, length, take, count_by, codes, Option, Some, None, Result, Ok, Err}
+use Rattle.std.specs.Prelude.{◌≡◌, ℕ, suc, zero, ◌+◌, ◌-◌, ◌≤◌, Bool, List, [], ◌∷◌, ◌++◌, ◌==◌, nat_lt, nat_le, if◌then◌else◌, slice_index, length, take, count_by, codes, Option, Some, None, Result, Ok, Err}
 use Rattle.krn_base.specs.declared.place.Loc.{Loc}
 use Rattle.py_lex.specs.declared.token.TokenKind.{TokenKind}
 use Rattle.py_lex.specs.declared.token.TokenKind.TheVariants as k
@@ -11,7 +11,8 @@ use Rattle.py_lex.specs.declared.place.Place.{Place}
 use Rattle.py_lex.specs.declared.layout.Line.{Line}
 use Rattle.py_lex.specs.declared.layout.Line.TheVariants.{Fresh, Inside}
 use Rattle.py_lex.specs.Bytes.{Bytes}
-use Rattle.py_lex.specs.Words.{is_same, is_note}
+use Rattle.std.specs.Str.{bytes_eq}
+use Rattle.py_lex.specs.Words.{is_note}
 use Rattle.py_lex.specs.Pieces.{pieces}
 
 -- before the first byte
@@ -27,6 +28,11 @@ behind p b =
 unfoldable pub passed : Place → Bytes → Place
 passed p [] = p
 passed p (b ∷ z) = passed (behind p b) z
+
+-- line and column are no further than the bytes go
+pub record IsNear (p : Place) : Type 0 where
+  pub line : p.loc.line ≤ p.offset + 1
+  pub col : p.loc.col ≤ p.offset + 1
 
 -- what has been read of a source: the place behind it, the brackets that are open, how far the line has come, the indentations
 -- that are open, the least first, and the tokens and notes
@@ -71,23 +77,28 @@ with_line line s = record s { line = line }
 abbrev pub with_indents : List ℕ → State → State
 with_indents indents s = record s { indents = indents }
 
+-- the last number, 0 where there is none
 abbrev pub last_of : List ℕ → ℕ
-last_of [] = 0
-last_of (n ∷ []) = n
-last_of (n ∷ m ∷ ns) = last_of (m ∷ ns)
+last_of ns = slice_index ns (length ns - 1)
 
 -- how many of the open indentations stay open before a token that stands behind n spaces
 abbrev pub kept : ℕ → List ℕ → ℕ
 kept n indents = count_by (λ i. nat_le i n) indents
 
--- Before the first token of a line that stands behind n spaces: an Indent, or a Dedent for each indentation that is dropped, of
--- which the last that is kept must then be n.
+-- a Dedent for each indentation that is dropped; the last that is kept must then be n
+unfoldable pub dedented : ℕ → State → Outcome
+dedented n s =
+    let count = kept n s.indents in
+    if last_of (take count s.indents) == n
+    then and_then (put_dedents (length s.indents - count) s) (λ t. Ok (with_indents (take count t.indents) t))
+    else Err s.place.loc
+
+-- before the first token of a line that stands behind n spaces: an Indent where that is more than the last number, else Dedents
 unfoldable pub indented : ℕ → State → Outcome
 indented n s =
-    if nat_lt (last_of s.indents) n then and_then (put k.Indent [] s) (λ t. Ok (with_indents (s.indents ++ n ∷ []) t))
-    else (if last_of (take (kept n s.indents) s.indents) == n
-    then and_then (put_dedents (length s.indents - kept n s.indents) s) (λ t. Ok (with_indents (take (kept n s.indents) s.indents) t))
-    else Err s.place.loc)
+    if nat_lt (last_of s.indents) n
+    then and_then (put k.Indent [] s) (λ t. Ok (with_indents (t.indents ++ n ∷ []) t))
+    else dedented n s
 
 -- before a token: nothing inside a line, a refusal where a tab stands before the first one
 unfoldable pub opened : State → Line → Outcome
@@ -98,10 +109,10 @@ opened s (Fresh n None) = indented n s
 -- the brackets that are open behind a token; only one that is open can be closed
 unfoldable pub depth_after : Bytes → ℕ → ℕ
 depth_after text n =
-    if is_same text (codes "(") then n + 1
-    else (if is_same text (codes "[") then n + 1
-    else (if is_same text (codes ")") then n - 1
-    else (if is_same text (codes "]") then n - 1
+    if bytes_eq text (codes "(") then n + 1
+    else (if bytes_eq text (codes "[") then n + 1
+    else (if bytes_eq text (codes ")") then n - 1
+    else (if bytes_eq text (codes "]") then n - 1
     else n)))
 
 unfoldable pub solid : TokenKind → Bytes → State → Outcome
@@ -133,10 +144,10 @@ commented text s (Fresh n tab) =
     if is_note text then record s { notes = s.notes ++ token_at k.Note text s.place ∷ [] } else s
 
 -- where a piece that begins no token is refused: at the first tab before the line's first token, else at itself
-unfoldable pub refused_at : State → Line → Loc
-refused_at s Inside = s.place.loc
-refused_at s (Fresh n (Some tab)) = tab
-refused_at s (Fresh n None) = s.place.loc
+unfoldable pub refused_at : Place → Line → Loc
+refused_at p Inside = p.loc
+refused_at p (Fresh n (Some tab)) = tab
+refused_at p (Fresh n None) = p.loc
 
 -- what a piece does, its place apart
 unfoldable pub done : Class → Bytes → State → Outcome
@@ -145,7 +156,7 @@ done Tabs text s = Ok (with_line (tabbed s.place.loc s.line) s)
 done LineEnd text s = ended text s s.line
 done Join text s = Ok s
 done Comment text s = Ok (commented text s s.line)
-done Bad text s = Err (refused_at s s.line)
+done Bad text s = Err (refused_at s.place s.line)
 done (Solid kind) text s = solid kind text s
 
 -- and its place
@@ -165,8 +176,11 @@ finished s =
 unfoldable pub first : State
 first = record { place = start; depth = 0; line = Fresh 0 None; indents = []; tokens = []; notes = [] }
 
+abbrev pub gathered : State → Tokens
+gathered s = record { tokens = s.tokens; notes = s.notes }
+
 -- the tokens of a source, or the place where it is refused
 unfoldable pub tokens_of : Bytes → Result Tokens Loc
 tokens_of z =
     and_then (layout (pieces z) first) (λ s.
-    and_then (finished s) (λ t. Ok (record { tokens = t.tokens; notes = t.notes })))
+    and_then (finished s) (λ t. Ok (gathered t)))

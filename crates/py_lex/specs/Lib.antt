@@ -3,3 +3,4 @@ pub mod Words
 pub mod Pieces
 pub mod Layout
 pub mod Lexed
+pub mod Views

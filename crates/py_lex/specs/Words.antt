@@ -1,15 +1,12 @@
 -- What is a name, a keyword, a number, a text, an operator and a note.
 use Rattle.std.specs.Prelude.{ℕ, suc, zero, ◌+◌, ◌-◌, ◌*◌, ◌^◌, Bool, true, false, not, ◌||◌, ◌&&◌, List, [], ◌∷◌, ◌==◌, nat_eq, nat_lt, nat_le, if◌then◌else◌, slice_index, length, codes, drop, fold, max, Option, Some, None}
-use Rattle.std.specs.List.{list_all, list_any, starts_with}
+use Rattle.std.specs.List.{list_any, starts_with}
+use Rattle.std.specs.Str.{bytes_eq}
 use Rattle.py_lex.specs.declared.bytes.Set.TheVariants.{Space, Tab, Blank, Digit, Hexadecimal, Word, Number}
-use Rattle.py_lex.specs.Bytes.{Bytes, is_in, run, line_end}
-
--- the same bytes
-abbrev pub is_same : Bytes → Bytes → Bool
-is_same a b = length a == length b && starts_with nat_eq a b
+use Rattle.py_lex.specs.Bytes.{Bytes, is_in, are_in, run}
 
 -- Python's 35 keywords
-abbrev pub keywords : List Bytes
+unfoldable pub keywords : List Bytes
 keywords =
     codes "False" ∷ codes "None" ∷ codes "True" ∷ codes "and" ∷ codes "as" ∷ codes "assert" ∷ codes "async" ∷ codes "await"
     ∷ codes "break" ∷ codes "class" ∷ codes "continue" ∷ codes "def" ∷ codes "del" ∷ codes "elif" ∷ codes "else" ∷ codes "except"
@@ -18,14 +15,14 @@ keywords =
     ∷ codes "while" ∷ codes "with" ∷ codes "yield" ∷ []
 
 unfoldable pub is_keyword : Bytes → Bool
-is_keyword word = list_any (is_same word) keywords
+is_keyword word = list_any (bytes_eq word) keywords
 
 -- letters, digits and `_`, and no digit first
 unfoldable pub is_name : Bytes → Bool
-is_name word = not (length word == 0) && (not (is_in Digit (slice_index word 0)) && list_all (is_in Word) word)
+is_name word = not (length word == 0) && (not (is_in Digit (slice_index word 0)) && are_in Word word)
 
 -- the operators of the language, and the brackets and marks
-abbrev pub operators : List Bytes
+unfoldable pub operators : List Bytes
 operators =
     codes "**" ∷ codes "//" ∷ codes "<<" ∷ codes ">>" ∷ codes "<=" ∷ codes ">=" ∷ codes "==" ∷ codes "!=" ∷ codes "+=" ∷ codes "-="
     ∷ codes "*=" ∷ codes "//=" ∷ codes "%=" ∷ codes "<<=" ∷ codes ">>=" ∷ codes "&=" ∷ codes "|=" ∷ codes "^=" ∷ codes "+"
@@ -33,7 +30,7 @@ operators =
     ∷ codes "(" ∷ codes ")" ∷ codes "[" ∷ codes "]" ∷ codes "," ∷ codes ":" ∷ codes "." ∷ []
 
 unfoldable pub is_operator : Bytes → Bool
-is_operator mark = list_any (is_same mark) operators
+is_operator mark = list_any (bytes_eq mark) operators
 
 -- the length of the longest word of a table that the text begins with, 0 where it begins with none
 abbrev pub longest : List Bytes → Bytes → ℕ
@@ -52,13 +49,13 @@ hexadecimal_value digits = fold (λ n b. 16 * n + digit_value b) 0 digits
 
 -- `0`, or digits of which the first isn't 0
 abbrev pub is_decimal : Bytes → Bool
-is_decimal text = list_all (is_in Digit) text && (length text == 1 || (not (length text == 0) && not (slice_index text 0 == 48)))
+is_decimal text = are_in Digit text && (length text == 1 || (not (length text == 0) && not (slice_index text 0 == 48)))
 
 -- `0x` or `0X` and at least one hexadecimal digit
 abbrev pub is_hexadecimal : Bytes → Bool
 is_hexadecimal text =
     (starts_with nat_eq text (codes "0x") || starts_with nat_eq text (codes "0X"))
-    && (not (length (drop 2 text) == 0) && list_all (is_in Hexadecimal) (drop 2 text))
+    && (not (length (drop 2 text) == 0) && are_in Hexadecimal (drop 2 text))
 
 -- the value of a number that is well formed
 unfoldable pub number_value : Bytes → Option ℕ
@@ -110,5 +107,6 @@ is_first_word word z =
 -- a comment whose first word is `pythran` or `omp`; its first byte is `#`
 unfoldable pub is_note : Bytes → Bool
 is_note comment =
-    let z = drop (1 + run Blank (drop 1 comment)) comment in
+    let text = drop 1 comment in
+    let z = drop (run Blank text) text in
     is_first_word (codes "pythran") z || is_first_word (codes "omp") z

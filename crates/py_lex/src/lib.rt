@@ -6,8 +6,15 @@
 
 mod bytes;
 mod layout;
+mod lexer;
+mod number;
 mod piece;
 mod place;
+mod quote;
+#[cfg(test)]
+mod tests;
 mod token;
+mod words;
 
+pub use lexer::tokens;
 pub use token::{Token, TokenKind, Tokens};
