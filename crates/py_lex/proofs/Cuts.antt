@@ -51,7 +51,7 @@ layout-end [] s is = refl
 layout-end (b ∷ z) s is = absurd (omega (arith, is))
 
 -- a refusal of one call is that of another
-pub steps-refused : {A B : Type 0} (o o' : Outcome) (stop : Stop) (s t : State) → ((at : Loc) → o ≡ Err at → o' ≡ Err at)
-    → Steps {A} o (Err stop) s → Steps {B} o' (Err stop) t
-steps-refused o o' (Refused r) s t f h = (h.0, f r.loc h.1)
-steps-refused o o' Memory s t f h = tt
+pub steps-refused : (A B : Type 0) (o o' : Outcome) (stop : Stop) (s t : State) → ((at : Loc) → o ≡ Err at → o' ≡ Err at)
+    → Steps {A = A} o (Err stop) s → Steps {A = B} o' (Err stop) t
+steps-refused A B o o' (Refused r) s t f h = (h.0, f r.loc h.1)
+steps-refused A B o o' Memory s t f h = tt

@@ -10,7 +10,7 @@ use Rattle.py_lex.specs.declared.token.TokenKind.{TokenKind}
 use Rattle.py_lex.specs.declared.token.TokenKind.TheVariants as k
 use Rattle.py_lex.specs.declared.token.Token.{Token}
 use Rattle.py_lex.specs.declared.token.Tokens.{Tokens}
-use Rattle.py_lex.specs.Bytes.{Bytes, is_in, run, line_end, before_line_end}
+use Rattle.py_lex.specs.Bytes.{Bytes, are_in, line_end, before_line_end}
 use Rattle.py_lex.specs.Words.{is_name, is_keyword, is_number, number_value, is_text, is_operator, is_note}
 use Rattle.py_lex.specs.Layout.{start, passed, limit, tokens_of}
 
@@ -38,10 +38,10 @@ pub record IsSpan (source : Bytes) (t : Token) : Type 0 where
   pub placed : t.loc ≡ (passed start (take t.start source)).loc
   pub spelled : Spells t.kind (text_of source t)
 
--- each token begins where the one before it has ended, or behind that
-abbrev pub InOrder : ℕ → List Token → Type 0
-InOrder at [] = Unit {0}
-InOrder at (t ∷ ts) = (at ≤ t.start) × InOrder t.end ts
+-- each token begins where the one before it has ended, or behind that, from `at` on and up to `end`
+abbrev pub InOrder : ℕ → List Token → ℕ → Type 0
+InOrder at [] end = at ≤ end
+InOrder at (t ∷ ts) end = (at ≤ t.start) × InOrder t.end ts end
 
 -- the last token is the one End
 abbrev pub EndsOnce : List Token → Type 0
@@ -57,7 +57,7 @@ IsNoteAlone tokens notes = AllByRecursion (λ t. t.kind ≢ k.Note) tokens × Al
 -- (35 is `#`), which holds no line end.
 abbrev pub IsFiller : Bytes → Type 0
 IsFiller z =
-    (run Blank z ≡ length z)
+    IsTrue (are_in Blank z)
     ⊎ ((line_end z ≡ length z)
     ⊎ (((z ≡ 92 ∷ drop 1 z) × (line_end (drop 1 z) ≡ length (drop 1 z)))
     ⊎ ((z ≡ 35 ∷ drop 1 z) × (before_line_end z ≡ length z))))
@@ -65,10 +65,10 @@ IsFiller z =
 abbrev pub IsGap : Bytes → Type 0
 IsGap z = (parts : List Bytes) × AllByRecursion IsFiller parts × (flat_map (λ part. part) parts ≡ z)
 
--- from `at` on, a source is the texts of these tokens, in order, with fillers alone between them
-abbrev pub MakesUp : Bytes → ℕ → List Token → Type 0
-MakesUp source at [] = at ≡ length source
-MakesUp source at (t ∷ ts) = (at ≤ t.start) × IsGap (slice_range source at t.start) × MakesUp source t.end ts
+-- from `at` up to `end`, a source is the texts of these tokens, in order, with fillers alone between them
+abbrev pub MakesUp : Bytes → ℕ → List Token → ℕ → Type 0
+MakesUp source at [] end = at ≡ end
+MakesUp source at (t ∷ ts) end = (at ≤ t.start) × IsGap (slice_range source at t.start) × MakesUp source t.end ts end
 
 -- The tokens and notes of a source.
 pub record IsLexed (source : Bytes) (ts : Tokens) : Type 0 where
@@ -76,12 +76,12 @@ pub record IsLexed (source : Bytes) (ts : Tokens) : Type 0 where
   pub is_list : tokens_of source ≡ Ok ts
   pub spans : AllByRecursion (IsSpan source) ts.tokens
   pub note_spans : AllByRecursion (IsSpan source) ts.notes
-  pub in_order : InOrder 0 ts.tokens
-  pub notes_in_order : InOrder 0 ts.notes
+  pub in_order : InOrder 0 ts.tokens (length source)
+  pub notes_in_order : InOrder 0 ts.notes (length source)
   pub apart : IsNoteAlone ts.tokens ts.notes
   pub ends_once : EndsOnce ts.tokens
   pub few : length ts.tokens ≤ limit
-  pub makes_up : MakesUp source 0 ts.tokens
+  pub makes_up : MakesUp source 0 ts.tokens (length source)
 
 -- a refusal comes under the rule Lex, at the place of the definition
 abbrev pub IsRefusal : Bytes → Stop → Type 0

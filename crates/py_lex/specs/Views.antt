@@ -24,6 +24,12 @@ Steps outcome (Ok a) new = outcome ≡ Ok new
 Steps outcome (Err (Refused r)) new = (r.rule ≡ rule.Lex) × (outcome ≡ Err r.loc)
 Steps outcome (Err Memory) new = Unit {0}
 
+-- the whole call gives the definition's list or its refusal, unless memory is wanting
+abbrev pub Lists : Result Tokens Loc → Result Tokens Stop → Type 0
+Lists outcome (Ok ts) = outcome ≡ Ok ts
+Lists outcome (Err (Refused r)) = (r.rule ≡ rule.Lex) × (outcome ≡ Err r.loc)
+Lists outcome (Err Memory) = Unit {0}
+
 abbrev pub spaces_of : Line → ℕ
 spaces_of Inside = 0
 spaces_of (Fresh n tab) = n

@@ -82,22 +82,26 @@ closed quotes zero at (b ∷ z) =
     else (if b == 10 && length quotes == 1 then None
     else closed quotes (if b == 92 then 1 else 0) (at + 1) z)
 
--- the length of the text at the front, behind its opening quotes: three where three stand there (34 is `"`, 39 is `'`)
+-- how a text may be quoted: three quotes are tried before one (34 is `"`, 39 is `'`)
+abbrev pub quotings : List Bytes
+quotings = codes "'''" ∷ codes "\"\"\"" ∷ codes "'" ∷ codes "\"" ∷ []
+
+abbrev pub text_by : List Bytes → Bytes → Option ℕ
+text_by [] z = None
+text_by (quotes ∷ others) z =
+    if starts_with nat_eq z quotes then closed quotes 0 (length quotes) (drop (length quotes) z) else text_by others z
+
+-- the length of the text at the front, or none where it isn't closed
 unfoldable pub text_len : Bytes → Option ℕ
-text_len z =
-    if starts_with nat_eq z (codes "'''") then closed (codes "'''") 0 3 (drop 3 z)
-    else (if starts_with nat_eq z (codes "\"\"\"") then closed (codes "\"\"\"") 0 3 (drop 3 z)
-    else (if starts_with nat_eq z (codes "'") then closed (codes "'") 0 1 (drop 1 z)
-    else (if starts_with nat_eq z (codes "\"") then closed (codes "\"") 0 1 (drop 1 z)
-    else None)))
+text_len z = text_by quotings z
+
+abbrev pub is_length : Option ℕ → ℕ → Bool
+is_length (Some n) m = n == m
+is_length None m = false
 
 -- a text in quotes, whole
 abbrev pub is_text : Bytes → Bool
 is_text text = is_length (text_len text) (length text)
-  where
-    is_length : Option ℕ → ℕ → Bool
-    is_length (Some n) m = n == m
-    is_length None m = false
 
 -- the word is there, and a blank or nothing behind it
 abbrev pub is_first_word : Bytes → Bytes → Bool

@@ -4,7 +4,8 @@ ghost use Rattle.std.specs.Prelude.{◌≡◌, ◌+◌, ◌^◌, ◌≤◌, leng
 ghost use Rattle.py_lex.specs.Pieces.{pieces};
 ghost use Rattle.py_lex.specs.Layout as spec;
 ghost use Rattle.py_lex.specs.Lexed.{IsLexed, IsRefusal, IsOnly};
-ghost use Rattle.py_lex.specs.Views.{view, Steps, IsFit};
+ghost use Rattle.py_lex.specs.declared.token.Tokens.{Tokens};
+ghost use Rattle.py_lex.specs.Views.{view, Steps, Lists, IsFit};
 
 use crate::layout::Layout;
 use crate::piece::first_piece;
@@ -30,19 +31,27 @@ fn lay_out(layout: &mut Layout, source: &[u8]) -> Result<(), Stop>
     Ok(())
 }
 
-/// The tokens and notes of a module's source, by the rules of Python's language reference, "Lexical analysis", in ASCII outside
-/// comments and texts.
-///
-/// The answer is the list that these rules give, [`Stop::Refused`] by `Rule::Lex` exactly where they give none, at the byte or
-/// token that breaks them, or [`Stop::Memory`]. Each byte is looked at a bounded number of times.
 #[tactic(auto, unfolding(crate::specs::Layout::tokens_of))]
-pub fn tokens(alloc: Global, source: &[u8]) -> Result<Tokens, Stop>
+fn listed(alloc: Global, source: &[u8]) -> Result<Tokens, Stop>
     requires { length source.now ≤ 2 ^ 31 }
-    ensures lexed { IfOk result (λ ts. spec.tokens_of source.now ≡ Ok ts) }
-    ensures refused { IfErr result (IsRefusal source.now) }
+    ensures { Lists (spec.tokens_of source.now) result }
 {
     let mut layout = Layout::first(alloc);
     lay_out(&mut layout, source)?;
     layout.finish()?;
     Ok(layout.into_tokens())
+}
+
+/// The tokens and notes of a module's source, by the rules of Python's language reference, "Lexical analysis", with ASCII alone
+/// outside comments and texts and with this project's limits: numbers of at most 2^63-1, and at most 200,000 tokens.
+///
+/// The answer is the one list that these rules give; [`Stop::Refused`] by `Rule::Lex`, exactly where they give none, at the byte
+/// or token that breaks them; or [`Stop::Memory`]. Each byte is looked at a bounded number of times.
+pub fn tokens(alloc: Global, source: &[u8]) -> Result<Tokens, Stop>
+    requires { length source.now ≤ 2 ^ 31 }
+    ensures lexed { IfOk result (λ ts. IsLexed source.now ts) }
+    ensures refused { IfErr result (IsRefusal source.now) }
+    ensures only { (ts : Tokens) → IsLexed source.now ts → IsOnly ts result }
+{
+    listed(alloc, source)
 }

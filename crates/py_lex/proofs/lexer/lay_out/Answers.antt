@@ -1,5 +1,6 @@
 use Rattle.std.proofs.Common.{◌≡◌, ◌<◌, ◌≤◌, length, sym, ◌∙◌, arith, rules}
 use Rattle.std.proofs.lemmas.Bool.Decides.{nat_tests}
+use denote.Builtin.{unit}
 use Rattle.py_lex.specs.Layout.{step}
 use Rattle.py_lex.specs.Views.{view}
 use Rattle.py_lex.proofs.Cuts.{layout-cut, layout-refused, layout-end, steps-refused}
@@ -16,7 +17,7 @@ pub returns-in-Err-clause-value : goal.returns-in-Err-clause-value
 returns-in-Err-clause-value c =
     let z = c.loop-rest.rest.now in
     let some : 0 < length z = first_of (search rules, grind (arith, nat_tests)) in
-    steps-refused (step c.first_piece-piece.result.class c.split_at.result.0.now (view c.loop-rest.layout)) _ c.in-Err.stop (view c.step.new.self) (view c.step.new.self)
+    steps-refused unit.Denot unit.Denot (step c.first_piece-piece.result.class c.split_at.result.0.now (view c.loop-rest.layout)) _ c.in-Err.stop (view c.step.new.self) (view c.step.new.self)
     (λ at e. c.loop-rest.invariant.0 ∙ layout-refused z c.first_piece-piece.result (view c.loop-rest.layout) at c.first_piece-piece.ensures.value some c.first_piece-piece.ensures.within.0 (rw (← c.split_at.ensures.front) e))
     c.in-Err.ensures.value
 
