@@ -1,9 +1,9 @@
 -- Runs, line ends and comments, cut out of a text, are those of the text.
-use Rattle.std.proofs.Common.{◌≡◌, ℕ, zero, suc, ◌+◌, ◌-◌, ◌<◌, ◌≤◌, Bool, true, false, cond, eqb, ◌&&◌, ◌||◌, not, List, [], ◌∷◌, length, take, drop, slice_index, refl, ap, sym, subst, ◌∙◌, arith}
-use Rattle.std.proofs.lemmas.Bool.{false≢true, eqb-true, eq-eqb}
+use Rattle.std.proofs.Common.{◌≡◌, ℕ, zero, suc, ◌+◌, ◌-◌, ◌<◌, ◌≤◌, Bool, true, false, cond, eqb, ◌&&◌, [], ◌∷◌, length, take, slice_index, refl, ap, sym, subst, ◌∙◌, arith}
+use Rattle.std.proofs.lemmas.Bool.{false≢true, eqb-true}
 use Rattle.std.specs.List.{prefix_len, list_all}
 use Rattle.py_lex.specs.Bytes.{Bytes, line_end, before_line_end}
-use Rattle.py_lex.proofs.Tests.{by_test, and_true, and_right, and_false}
+use Rattle.py_lex.proofs.Choices.{by_test, and_true, and_right, and_false}
 
 prefix_len-yes : (p : ℕ → Bool) (b : ℕ) (z : Bytes) → p b ≡ true → prefix_len p (b ∷ z) ≡ suc (prefix_len p z)
 prefix_len-yes p b z e =
@@ -49,8 +49,8 @@ line_end-whole (b ∷ z) =
     by_test (eqb b 10)
     (λ e. subst P (sym (line_end-is b z true _ e refl)) (line_end-is b [] true _ e refl))
     (λ e. by_test (eqb b 13 && eqb (slice_index z 0) 10)
-        (λ f. subst P (sym (line_end-is b z false true e f)) (cr_lf-whole b z e f))
-        (λ f. subst P (sym (line_end-is b z false false e f)) refl))
+    (λ f. subst P (sym (line_end-is b z false true e f)) (cr_lf-whole b z e f))
+    (λ f. subst P (sym (line_end-is b z false false e f)) refl))
 
 cr_lf-fits : (b : ℕ) (z : Bytes) → (eqb b 13 && eqb (slice_index z 0) 10) ≡ true → 2 ≤ length (b ∷ z)
 cr_lf-fits b [] f = absurd (false≢true (and_right (eqb b 13) false f))
@@ -62,8 +62,8 @@ line_end-fits (b ∷ z) =
     by_test (eqb b 10)
     (λ e. let is : line_end (b ∷ z) ≡ 1 = line_end-is b z true _ e refl in omega (arith, is))
     (λ e. by_test (eqb b 13 && eqb (slice_index z 0) 10)
-        (λ f. let is : line_end (b ∷ z) ≡ 2 = line_end-is b z false true e f in omega (arith, is, cr_lf-fits b z f))
-        (λ f. let is : line_end (b ∷ z) ≡ 0 = line_end-is b z false false e f in omega (arith, is)))
+    (λ f. let is : line_end (b ∷ z) ≡ 2 = line_end-is b z false true e f in omega (arith, is, cr_lf-fits b z f))
+    (λ f. let is : line_end (b ∷ z) ≡ 0 = line_end-is b z false false e f in omega (arith, is)))
 
 no_cr_lf : (a : Bool) (z : Bytes) (n : ℕ) → (a && eqb (slice_index z 0) 10) ≡ false → (a && eqb (slice_index (take n z) 0) 10) ≡ false
 no_cr_lf a z zero f = and_false a false refl
@@ -76,8 +76,8 @@ line_end-cut b z n none =
     by_test (eqb b 10)
     (λ e. let is : line_end (b ∷ z) ≡ 1 = line_end-is b z true _ e refl in absurd (omega (arith, is, none)))
     (λ e. by_test (eqb b 13 && eqb (slice_index z 0) 10)
-        (λ f. let is : line_end (b ∷ z) ≡ 2 = line_end-is b z false true e f in absurd (omega (arith, is, none)))
-        (λ f. line_end-is b (take n z) false false e (no_cr_lf (eqb b 13) z n f)))
+    (λ f. let is : line_end (b ∷ z) ≡ 2 = line_end-is b z false true e f in absurd (omega (arith, is, none)))
+    (λ f. line_end-is b (take n z) false false e (no_cr_lf (eqb b 13) z n f)))
 
 before-more : (b : ℕ) (z : Bytes) → line_end (b ∷ z) ≡ 0 → before_line_end (b ∷ z) ≡ suc (before_line_end z)
 unfolding before_line_end

@@ -1,6 +1,6 @@
 -- What has been read of a source is made up of its tokens and of fillers, at each piece.
-use Rattle.std.proofs.Common.{◌≡◌, ◌≢◌, ℕ, zero, suc, ◌+◌, ◌-◌, ◌<◌, ◌≤◌, Bool, true, false, cond, eqb, nat_lt, List, [], ◌∷◌, ◌++◌, length, take, drop, Option, Some, None, Result, Ok, Err, inl, inr, refl, ap, sym, subst, ◌∙◌, append_assoc, length-append, arith}
-use Rattle.std.proofs.lemmas.Bool.{false≢true, ltb-true}
+use Rattle.std.proofs.Common.{◌≡◌, ◌≢◌, ℕ, zero, suc, ◌+◌, ◌-◌, ◌<◌, ◌≤◌, Bool, true, cond, eqb, nat_lt, List, [], ◌∷◌, ◌++◌, length, take, drop, Some, None, Result, Ok, Err, inl, inr, refl, ap, sym, subst, ◌∙◌, append_assoc, length-append, arith}
+use Rattle.std.proofs.lemmas.Bool.{ltb-true}
 use Rattle.std.specs.List.{AllByRecursion, slice_range, flat_map}
 use Rattle.krn_base.specs.declared.place.Loc.{Loc}
 use Rattle.py_lex.specs.declared.token.TokenKind.{TokenKind}
@@ -16,7 +16,7 @@ use Rattle.py_lex.specs.Words.{is_note}
 use Rattle.py_lex.specs.Layout as spec
 use Rattle.py_lex.specs.Layout.{State, Outcome, and_then, start, passed, limit, token_at}
 use Rattle.py_lex.specs.Lexed.{Spells, IsSpan, InOrder, IsFiller, IsGap, MakesUp}
-use Rattle.py_lex.proofs.Tests.{if_case, by_test}
+use Rattle.py_lex.proofs.Choices.{if_case, by_test}
 use Rattle.py_lex.proofs.PieceLaws.{Fits}
 
 pub all-snoc : {X : Type 0} (P : X → Type 0) (xs : List X) (x : X) → AllByRecursion P xs → P x → AllByRecursion P (xs ++ x ∷ [])

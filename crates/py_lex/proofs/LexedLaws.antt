@@ -1,23 +1,22 @@
 -- A list that the definition gives has the laws of one.
-use Rattle.std.proofs.Common.{◌≡◌, ◌≢◌, ℕ, zero, suc, ◌+◌, ◌-◌, ◌<◌, ◌≤◌, List, [], ◌∷◌, ◌++◌, length, take, drop, Option, Some, None, Result, Ok, Err, inl, inr, refl, ap, sym, subst, ◌∙◌, length-append, arith}
-use Rattle.std.specs.List.{AllByRecursion, slice_range}
+use Rattle.std.proofs.Common.{◌≡◌, ◌≢◌, ℕ, zero, suc, ◌+◌, ◌-◌, ◌<◌, ◌≤◌, List, [], ◌∷◌, ◌++◌, length, take, drop, Result, Ok, inl, refl, ap, sym, subst, ◌∙◌, length-append, arith}
+use Rattle.std.specs.List.{AllByRecursion}
 use Rattle.krn_base.specs.declared.place.Loc.{Loc}
 use Rattle.py_lex.specs.declared.token.TokenKind.TheVariants as k
 use Rattle.py_lex.specs.declared.token.Token.{Token}
 use Rattle.py_lex.specs.declared.token.Tokens.{Tokens}
 use Rattle.py_lex.specs.declared.piece.Class.{Class}
 use Rattle.py_lex.specs.declared.place.Place.{Place}
-use Rattle.py_lex.specs.declared.layout.Line.TheVariants.{Fresh, Inside}
 use Rattle.py_lex.specs.Bytes.{Bytes}
-use Rattle.py_lex.specs.Pieces.{piece, pieces, pieces_from}
+use Rattle.py_lex.specs.Pieces.{piece, pieces}
 use Rattle.py_lex.specs.Layout as spec
 use Rattle.py_lex.specs.Layout.{State, Outcome, and_then, start, passed, limit, token_at, behind, gathered, tokens_of}
-use Rattle.py_lex.specs.Lexed.{Spells, IsSpan, InOrder, EndsOnce, IsNoteAlone, MakesUp, IsLexed}
+use Rattle.py_lex.specs.Lexed.{IsSpan, InOrder, EndsOnce, IsNoteAlone, MakesUp, IsLexed}
 use Rattle.py_lex.proofs.ByteLaws.{length-take-fits}
 use Rattle.py_lex.proofs.TextLaws.{length-drop-is}
 use Rattle.py_lex.proofs.PieceLaws.{Fits, piece-cut}
 use Rattle.py_lex.proofs.Cuts.{pieces-cut, layout-end}
-use Rattle.py_lex.proofs.GoodLaws.{At, at-nothing, Good, Puts, put-puts, and_then-ok, ok-same, all-snoc, makes-snoc, order-made, take-add, drop-add, no-gap, span-at, ended-fine, dedents-fine, done-fine}
+use Rattle.py_lex.proofs.GoodLaws.{At, at-nothing, Good, put-puts, and_then-ok, ok-same, all-snoc, makes-snoc, order-made, take-add, drop-add, no-gap, span-at, ended-fine, dedents-fine, done-fine}
 
 passed-offset : (p : Place) (z : Bytes) → (passed p z).offset ≡ p.offset + length z
 unfolding passed
@@ -41,7 +40,7 @@ place-moves source p text placed here =
     let less : p.offset + length text - p.offset ≡ length text = omega arith in
     let text-is : take (length text) (drop p.offset source) ≡ text = ap (λ n. take n (drop p.offset source)) (sym less) ∙ here.is in
     let upto : take (p.offset + length text) source ≡ take p.offset source ++ text =
-        take-add p.offset (length text) source ∙ ap (λ z. take p.offset source ++ z) text-is in
+    take-add p.offset (length text) source ∙ ap (λ z. take p.offset source ++ z) text-is in
     ap (λ q. passed q text) placed ∙ passed-append start (take p.offset source) text ∙ ap (passed start) (sym upto)
     ∙ ap (λ n. passed start (take n source)) (sym (passed-offset p text))
 

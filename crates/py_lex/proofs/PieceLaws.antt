@@ -1,20 +1,17 @@
 -- The piece at the front of a text has at least one byte and no more than the text, and its bytes are what its class says.
-use Rattle.std.proofs.Common.{◌≡◌, ◌≢◌, ℕ, zero, suc, ◌+◌, ◌-◌, ◌<◌, ◌≤◌, Bool, true, false, cond, eqb, ◌&&◌, ◌||◌, not, List, [], ◌∷◌, length, take, drop, slice_index, Option, Some, None, refl, ap, sym, subst, ◌∙◌, arith}
-use Rattle.std.proofs.lemmas.Bool.{false≢true, eqb-true, eq-eqb}
-use Rattle.std.proofs.lemmas.Bool.Decides.{nat_tests}
-use Rattle.std.specs.List.{prefix_len, list_all}
+use Rattle.std.proofs.Common.{◌≡◌, ◌≢◌, ℕ, zero, suc, ◌+◌, ◌-◌, ◌<◌, ◌≤◌, Bool, true, false, eqb, ◌||◌, not, [], ◌∷◌, length, take, drop, slice_index, Option, Some, None, refl, ap, sym, subst, ◌∙◌, arith}
+use Rattle.std.proofs.lemmas.Bool.{false≢true, eqb-true}
 use Rattle.py_lex.specs.declared.bytes.Set.{Set}
 use Rattle.py_lex.specs.declared.bytes.Set.TheVariants.{Space, Tab, Blank, Digit, Word, Number}
-use Rattle.py_lex.specs.declared.token.TokenKind.{TokenKind}
 use Rattle.py_lex.specs.declared.token.TokenKind.TheVariants as k
 use Rattle.py_lex.specs.declared.piece.Piece.{Piece}
 use Rattle.py_lex.specs.declared.piece.Class.{Class}
 use Rattle.py_lex.specs.declared.piece.Class.TheVariants.{Spaces, Tabs, LineEnd, Join, Comment, Bad, Solid}
 use Rattle.py_lex.specs.Bytes.{Bytes, is_in, are_in, run, line_end, before_line_end}
-use Rattle.py_lex.specs.Words.{is_keyword, is_number, is_name, text_len, is_text, longest, operators}
-use Rattle.py_lex.specs.Pieces.{piece, piece_of, joined, numeral, word, text_piece, quoted, mark}
+use Rattle.py_lex.specs.Words.{is_keyword, is_number, text_len, longest, operators}
+use Rattle.py_lex.specs.Pieces.{piece, piece_of, joined, numeral, word, text_piece, mark}
 use Rattle.py_lex.specs.Lexed.{Spells}
-use Rattle.py_lex.proofs.Tests.{if_case, by_test, and_true, or_left, or_right, not_false}
+use Rattle.py_lex.proofs.Choices.{if_case, or_left, or_right, not_false}
 use Rattle.py_lex.proofs.ByteLaws.{run_in, run_some, run_fits, line_end-whole, line_end-fits, before-whole, before-fits, before-some, take-first}
 use Rattle.py_lex.proofs.WordLaws.{number-spells, name-spells, longest-fits, operator-spells}
 use Rattle.py_lex.proofs.TextLaws.{text-spells, text-moves, text-fits}

@@ -1,10 +1,10 @@
 -- A text in quotes, cut out of a source, is one.
-use Rattle.std.proofs.Common.{◌≡◌, ℕ, zero, suc, ◌+◌, ◌-◌, ◌<◌, ◌≤◌, Bool, true, false, cond, eqb, ◌&&◌, ◌||◌, not, List, [], ◌∷◌, length, take, drop, slice_index, nat_eq, codes, Option, Some, None, refl, ap, sym, subst, ◌∙◌, arith}
-use Rattle.std.proofs.lemmas.Bool.{false≢true, eqb-true, eq-eqb}
+use Rattle.std.proofs.Common.{◌≡◌, ℕ, zero, suc, ◌+◌, ◌-◌, ◌≤◌, Bool, true, false, cond, eqb, ◌&&◌, List, [], ◌∷◌, length, take, drop, nat_eq, Some, None, refl, ap, sym, ◌∙◌, arith}
+use Rattle.std.proofs.lemmas.Bool.{false≢true, eq-eqb}
 use Rattle.std.specs.List.{starts_with, AllByRecursion}
 use Rattle.py_lex.specs.Bytes.{Bytes}
 use Rattle.py_lex.specs.Words.{closed, quotings, text_by, text_len, is_length, is_text}
-use Rattle.py_lex.proofs.Tests.{by_test, and_true, and_left, and_right}
+use Rattle.py_lex.proofs.Choices.{by_test, and_true, and_left, and_right}
 use Rattle.py_lex.proofs.ByteLaws.{length-take-fits}
 use Rattle.py_lex.proofs.WordLaws.{starts-fits}
 
@@ -54,9 +54,9 @@ closed-within quotes zero at (b ∷ z) n e =
     (λ v. let is : at + length quotes ≡ n = some-same _ n (sym (closed-at quotes at b z true _ v refl) ∙ e) in
     (omega (arith, is), omega (arith, is, starts-fits (b ∷ z) quotes v)))
     (λ v. by_test (eqb b 10 && eqb (length quotes) 1)
-        (λ w. none-some n (sym (closed-at quotes at b z false true v w) ∙ e))
-        (λ w. let more = closed-within quotes (cond (eqb b 92) 1 0) (at + 1) z n (sym (closed-at quotes at b z false false v w) ∙ e) in
-        (omega (arith, more.0), omega (arith, more.1))))
+    (λ w. none-some n (sym (closed-at quotes at b z false true v w) ∙ e))
+    (λ w. let more = closed-within quotes (cond (eqb b 92) 1 0) (at + 1) z n (sym (closed-at quotes at b z false false v w) ∙ e) in
+    (omega (arith, more.0), omega (arith, more.1))))
 
 -- the quotes close the text that ends behind them too
 closed-cut : (quotes : Bytes) (taken at : ℕ) (z : Bytes) (m : ℕ) → 1 ≤ length quotes → closed quotes taken at z ≡ Some (at + m) → closed quotes taken at (take m z) ≡ Some (at + m)
@@ -70,17 +70,17 @@ closed-cut quotes zero at (b ∷ z) zero some e =
     by_test (starts_with nat_eq (b ∷ z) quotes)
     (λ v. absurd (omega (arith, some, some-same (at + length quotes) (at + 0) (sym (closed-at quotes at b z true _ v refl) ∙ e))))
     (λ v. by_test (eqb b 10 && eqb (length quotes) 1)
-        (λ w. none-some (at + 0) (sym (closed-at quotes at b z false true v w) ∙ e))
-        (λ w. absurd (omega (arith, (closed-within quotes (cond (eqb b 92) 1 0) (at + 1) z (at + 0) (sym (closed-at quotes at b z false false v w) ∙ e)).0))))
+    (λ w. none-some (at + 0) (sym (closed-at quotes at b z false true v w) ∙ e))
+    (λ w. absurd (omega (arith, (closed-within quotes (cond (eqb b 92) 1 0) (at + 1) z (at + 0) (sym (closed-at quotes at b z false false v w) ∙ e)).0))))
 closed-cut quotes zero at (b ∷ z) (suc m) some e =
     by_test (starts_with nat_eq (b ∷ z) quotes)
     (λ v. let is : at + length quotes ≡ at + suc m = some-same _ _ (sym (closed-at quotes at b z true _ v refl) ∙ e) in
     closed-at quotes at b (take m z) true _ (starts-kept quotes (b ∷ z) (suc m) (omega (arith, is)) v) refl ∙ ap Some is)
     (λ v. by_test (eqb b 10 && eqb (length quotes) 1)
-        (λ w. none-some (at + suc m) (sym (closed-at quotes at b z false true v w) ∙ e))
-        (λ w. let moved : at + suc m ≡ at + 1 + m = omega arith in
-        closed-at quotes at b (take m z) false false (starts-not quotes (b ∷ z) (suc m) v) w
-        ∙ closed-cut quotes (cond (eqb b 92) 1 0) (at + 1) z m some (sym (closed-at quotes at b z false false v w) ∙ e ∙ ap Some moved) ∙ ap Some (sym moved)))
+    (λ w. none-some (at + suc m) (sym (closed-at quotes at b z false true v w) ∙ e))
+    (λ w. let moved : at + suc m ≡ at + 1 + m = omega arith in
+    closed-at quotes at b (take m z) false false (starts-not quotes (b ∷ z) (suc m) v) w
+    ∙ closed-cut quotes (cond (eqb b 92) 1 0) (at + 1) z m some (sym (closed-at quotes at b z false false v w) ∙ e ∙ ap Some moved) ∙ ap Some (sym moved)))
 
 take-nil : (n : ℕ) → take {A = ℕ} n [] ≡ []
 take-nil zero = refl

@@ -1,14 +1,14 @@
 -- What is cut out as a name, a number, an operator or a text is one.
-use Rattle.std.proofs.Common.{◌≡◌, ◌≢◌, ℕ, zero, suc, ◌+◌, ◌-◌, ◌^◌, ◌<◌, ◌≤◌, ◌⊎◌, inl, inr, Bool, true, false, cond, eqb, ◌&&◌, ◌||◌, not, List, [], ◌∷◌, length, take, drop, slice_index, max, nat_eq, nat_le, Option, Some, None, refl, ap, sym, subst, ◌∙◌, arith}
+use Rattle.std.proofs.Common.{◌≡◌, ℕ, zero, suc, ◌-◌, ◌^◌, ◌<◌, ◌≤◌, ◌⊎◌, inl, inr, Bool, true, false, cond, eqb, not, List, [], ◌∷◌, length, take, slice_index, max, nat_eq, nat_le, Option, Some, None, refl, ap, sym, subst, ◌∙◌, arith}
 use Rattle.std.proofs.lemmas.Bool.{false≢true, eqb-true, eq-eqb, ltb-true}
 use Rattle.std.proofs.lemmas.Bool.Decides.{nat_tests}
 use Rattle.std.proofs.lemmas.Slice.Eq.{bytes_eq-Decides}
-use Rattle.std.specs.List.{list_all, list_any, starts_with}
+use Rattle.std.specs.List.{list_any, starts_with}
 use Rattle.std.specs.Str.{bytes_eq}
 use Rattle.py_lex.specs.declared.bytes.Set.TheVariants.{Digit, Word}
 use Rattle.py_lex.specs.Bytes.{Bytes, is_in, are_in, run}
 use Rattle.py_lex.specs.Words.{number_value, is_in_range, is_number, is_name, is_operator, operators, longest}
-use Rattle.py_lex.proofs.Tests.{by_test, and_true, and_left, and_right, or_left, or_right, not_true}
+use Rattle.py_lex.proofs.Choices.{by_test, and_true, or_left, or_right, not_true}
 use Rattle.py_lex.proofs.ByteLaws.{run_in, run_some, take-first}
 
 in_range-some : (o : Option ℕ) → is_in_range o ≡ true → (n : ℕ) × (o ≡ Some n) × (n < 2 ^ 63)
@@ -58,11 +58,11 @@ longest-is (word ∷ words) z =
     let b : ℕ = longest words z in
     let P : ℕ → Type 0 = λ n. (n ≡ 0) ⊎ (list_any (bytes_eq (take n z)) (word ∷ words) ≡ true) in
     elim (max-case a b) [
-      inl e ↦ subst P (sym e) (by_test (starts_with nat_eq z word)
-        (λ s. let is : a ≡ length word = ap (λ (v : Bool). cond v (length word) 0) s in
-        subst P (sym is) (inr (or_left _ _ ((bytes_eq-Decides (take (length word) z) word).1 (sym (starts-is z word s))))))
-        (λ s. inl (ap (λ (v : Bool). cond v (length word) 0) s)))
-    | inr e ↦ subst P (sym e) (elim (longest-is words z) [ inl h ↦ inl h | inr h ↦ inr (or_right (bytes_eq (take b z) word) _ h) ])
+      | inl e ↦ subst P (sym e) (by_test (starts_with nat_eq z word)
+          (λ s. let is : a ≡ length word = ap (λ (v : Bool). cond v (length word) 0) s in
+          subst P (sym is) (inr (or_left _ _ ((bytes_eq-Decides (take (length word) z) word).1 (sym (starts-is z word s))))))
+          (λ s. inl (ap (λ (v : Bool). cond v (length word) 0) s)))
+      | inr e ↦ subst P (sym e) (elim (longest-is words z) [ inl h ↦ inl h | inr h ↦ inr (or_right (bytes_eq (take b z) word) _ h) ])
     ]
 
 pub longest-fits : (words : List Bytes) (z : Bytes) → longest words z ≤ length z
@@ -78,6 +78,6 @@ pub operator-spells : (z : Bytes) → eqb (longest operators z) 0 ≡ false → 
 unfolding is_operator
 operator-spells z some =
     elim (longest-is operators z) [
-      inl e ↦ absurd (false≢true (sym some ∙ eq-eqb _ 0 e))
-    | inr h ↦ h
+      | inl e ↦ absurd (false≢true (sym some ∙ eq-eqb _ 0 e))
+      | inr h ↦ h
     ]

@@ -1,5 +1,5 @@
 -- The tokens of a source: its pieces, laid out in lines and blocks. Python's language reference, "Lexical analysis".
-use Rattle.std.specs.Prelude.{◌≡◌, ℕ, suc, zero, ◌+◌, ◌-◌, ◌≤◌, Bool, List, [], ◌∷◌, ◌++◌, ◌==◌, nat_lt, nat_le, if◌then◌else◌, slice_index, length, take, count_by, codes, Option, Some, None, Result, Ok, Err}
+use Rattle.std.specs.Prelude.{ℕ, suc, zero, ◌+◌, ◌-◌, ◌≤◌, List, [], ◌∷◌, ◌++◌, ◌==◌, nat_lt, nat_le, if◌then◌else◌, slice_index, length, take, count_by, codes, Some, None, Result, Ok, Err}
 use Rattle.krn_base.specs.declared.place.Loc.{Loc}
 use Rattle.py_lex.specs.declared.token.TokenKind.{TokenKind}
 use Rattle.py_lex.specs.declared.token.TokenKind.TheVariants as k

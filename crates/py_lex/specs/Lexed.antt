@@ -1,7 +1,6 @@
 -- What the tokens of a source are to those who read them: the list of the definition, with the laws that hold of it.
-use Rattle.std.specs.Prelude.{◌≡◌, ◌≢◌, ℕ, ◌+◌, ◌^◌, ◌<◌, ◌≤◌, Bool, false, ◌||◌, ◌⊎◌, List, [], ◌∷◌, ◌++◌, IsTrue, length, take, drop, slice_index, Option, Some, Result, Ok, Err}
+use Rattle.std.specs.Prelude.{◌≡◌, ◌≢◌, ℕ, ◌^◌, ◌<◌, ◌≤◌, false, ◌⊎◌, List, [], ◌∷◌, IsTrue, length, take, drop, Some, Result, Ok, Err}
 use Rattle.std.specs.List.{AllByRecursion, slice_range, flat_map}
-use Rattle.krn_base.specs.declared.place.Loc.{Loc}
 use Rattle.krn_base.specs.declared.refusal.Stop.{Stop}
 use Rattle.krn_base.specs.declared.refusal.Stop.TheVariants.{Refused, Memory}
 use Rattle.krn_base.specs.declared.refusal.Rule.TheVariants as rule
@@ -11,7 +10,7 @@ use Rattle.py_lex.specs.declared.token.TokenKind.TheVariants as k
 use Rattle.py_lex.specs.declared.token.Token.{Token}
 use Rattle.py_lex.specs.declared.token.Tokens.{Tokens}
 use Rattle.py_lex.specs.Bytes.{Bytes, are_in, line_end, before_line_end}
-use Rattle.py_lex.specs.Words.{is_name, is_keyword, is_number, number_value, is_text, is_operator, is_note}
+use Rattle.py_lex.specs.Words.{is_name, is_keyword, number_value, is_text, is_operator, is_note}
 use Rattle.py_lex.specs.Layout.{start, passed, limit, tokens_of}
 
 -- the bytes of a token

@@ -1,5 +1,5 @@
 -- The pieces of a source, by longest match and without any state.
-use Rattle.std.specs.Prelude.{ℕ, suc, zero, ◌+◌, ◌-◌, ◌<◌, Bool, not, ◌||◌, List, [], ◌∷◌, ◌==◌, if◌then◌else◌, slice_index, length, take, drop, Option, Some, None}
+use Rattle.std.specs.Prelude.{ℕ, suc, zero, ◌+◌, ◌-◌, not, ◌||◌, List, [], ◌∷◌, ◌==◌, if◌then◌else◌, slice_index, length, take, drop, Option, Some, None}
 use Rattle.py_lex.specs.declared.bytes.Set.TheVariants.{Space, Tab, Digit, Word, Number}
 use Rattle.py_lex.specs.declared.token.TokenKind.TheVariants as k
 use Rattle.py_lex.specs.declared.piece.Piece.{Piece}

@@ -1,8 +1,8 @@
 -- What is a name, a keyword, a number, a text, an operator and a note.
-use Rattle.std.specs.Prelude.{ℕ, suc, zero, ◌+◌, ◌-◌, ◌*◌, ◌^◌, Bool, true, false, not, ◌||◌, ◌&&◌, List, [], ◌∷◌, ◌==◌, nat_eq, nat_lt, nat_le, if◌then◌else◌, slice_index, length, codes, drop, fold, max, Option, Some, None}
+use Rattle.std.specs.Prelude.{ℕ, suc, zero, ◌+◌, ◌-◌, ◌*◌, ◌^◌, Bool, false, not, ◌||◌, ◌&&◌, List, [], ◌∷◌, ◌==◌, nat_eq, nat_lt, nat_le, if◌then◌else◌, slice_index, length, codes, drop, fold, max, Option, Some, None}
 use Rattle.std.specs.List.{list_any, starts_with}
 use Rattle.std.specs.Str.{bytes_eq}
-use Rattle.py_lex.specs.declared.bytes.Set.TheVariants.{Space, Tab, Blank, Digit, Hexadecimal, Word, Number}
+use Rattle.py_lex.specs.declared.bytes.Set.TheVariants.{Blank, Digit, Hexadecimal, Word}
 use Rattle.py_lex.specs.Bytes.{Bytes, is_in, are_in, run}
 
 -- Python's 35 keywords

@@ -1,5 +1,5 @@
 -- Choices by tests.
-use Rattle.std.proofs.Common.{◌≡◌, Bool, true, false, cond, ◌&&◌, ◌||◌, not, refl, arith}
+use Rattle.std.proofs.Common.{◌≡◌, Bool, true, false, cond, ◌&&◌, ◌||◌, not, refl}
 use Rattle.std.proofs.lemmas.Bool.{false≢true}
 
 -- a choice has what both its sides have
