@@ -1,0 +1,10 @@
+pub mod Answered
+pub mod ByteLaws
+pub mod Choices
+pub mod Cuts
+pub mod GoodLaws
+pub mod LexedLaws
+pub mod PieceLaws
+pub mod TextLaws
+pub mod Turns
+pub mod WordLaws
