@@ -1,0 +1,5 @@
+-- Loops by turns.
+use Rattle.std.proofs.Common.{◌≡◌, ℕ, suc, ◌+◌, ◌-◌, ◌<◌, arith}
+
+pub turn : (n at : ℕ) → at < n → n - at ≡ suc (n - (at + 1))
+turn n at below = omega arith

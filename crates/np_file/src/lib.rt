@@ -1,0 +1,11 @@
+//! Array files: version 1.0 of NumPy's `.npy`, in the element types int64 and bool.
+#![tactic(auto)]
+
+mod fault;
+mod header;
+mod numbers;
+mod parts;
+mod reading;
+
+pub use fault::NpyFault;
+pub use reading::read_npy;
