@@ -6,6 +6,7 @@ use Rattle.std.proofs.Math.Nat.{mul-le-mul_left}
 use Rattle.std.proofs.lemmas.List.{reverse-append, length-reverse, append-nil}
 use Rattle.std.proofs.lemmas.List.Folds.{flat_map-map}
 use Rattle.std.proofs.lemmas.Simd.{map-map}
+use Rattle.std.proofs.lemmas.List.FromFn.{map-range_with_len_more}
 use Rattle.std.proofs.lemmas.Nat.{div-mul-add, mod-mul-add, div_below, mod_below, div-add-mod', mul-add-lt}
 use Rattle.krn_base.specs.declared.kind.Kind.{Kind}
 use Rattle.view_places.specs.Arrays.{element_count, indices, order_of}
@@ -136,3 +137,28 @@ transposed_below (n ∷ ns) k lt =
     let c = element_count ns in
     let some = positive n c k lt in
     times_below n c (k / c) (transposed ns (k % c)) (div_below k c n some lt) (transposed_below ns (k % c) (mod_below k c some))
+
+pub transposed_empty : (ns : List ℕ) (k : ℕ) → length ns ≡ 0 → 0 ≡ transposed ns k
+unfolding transposed
+transposed_empty [] k len = refl
+transposed_empty (n ∷ ns) k len = absurd (omega arith)
+
+divided : (n c : ℕ) → 0 < n → n * c / n ≡ c
+divided n c some = ap (λ (x : ℕ). x / n) e ∙ div-mul-add c n 0 some
+  where
+    e : n * c ≡ c * n + 0
+    e = omega arith
+
+-- one step of the recursion, with the number of elements of the whole
+pub transposed_step : (ns : List ℕ) (k count : ℕ) → 1 ≤ length ns → count ≡ element_count ns → k < count → (count / get_or ns 0 0 ≡ element_count (drop 1 ns)) × (k / element_count (drop 1 ns) + get_or ns 0 0 * transposed (drop 1 ns) (k % element_count (drop 1 ns)) ≡ transposed ns k)
+unfolding transposed
+transposed_step [] k count some is lt = absurd (omega arith)
+transposed_step (n ∷ ns) k count some is lt =
+    let positive_n : 0 < n = positive (element_count ns) n k (omega arith) in
+    (ap (λ (x : ℕ). x / n) is ∙ divided n (element_count ns) positive_n, refl)
+
+-- one more word
+pub words_more : (plan : Plan) (k : ℕ) (now new : List ℤ) (z : ℤ) → new ≡ now ++ z ∷ [] → z ≡ word plan.kind plan.elements (place_at plan.first_fastest plan.shape k) → now ≡ first_words plan k → new ≡ first_words plan (k + 1)
+words_more plan k now new z e is g =
+    let f : ℕ → ℤ = λ i. word plan.kind plan.elements (place_at plan.first_fastest plan.shape i) in
+    e ∙ ap (λ (xs : List ℤ). xs ++ z ∷ []) g ∙ ap (λ (x : ℤ). first_words plan k ++ x ∷ []) is ∙ sym (map-range_with_len_more f 0 k k (omega arith))

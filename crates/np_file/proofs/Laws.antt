@@ -1,6 +1,6 @@
 -- What is read is what the bytes are a file of, or the first part that breaks the form.
 use Rattle.std.proofs.Common.{◌≡◌, ℕ, zero, suc, ◌+◌, ◌-◌, ◌*◌, ◌<◌, ◌≤◌, Bool, true, false, cond, eqb, ltb, List, [], ◌∷◌, ◌++◌, length, take, drop, Option, Some, None, Result, Ok, Err, refl, sym, ap, subst, ◌∙◌, append_assoc, arith, inl, inr, ◌⊎◌}
-use Rattle.std.specs.Prelude.{codes, ◌≢◌, IfOk, IfErr}
+use Rattle.std.specs.Prelude.{ℤ, codes, ◌≢◌, IfOk, IfErr}
 use Rattle.std.specs.Str.{bytes_eq}
 use Rattle.std.proofs.lemmas.Bool.{eqb-true, eqb-false, eq-eqb, ltb-false, le-ltb}
 use Rattle.std.proofs.lemmas.List.{take-append-drop, take_at, drop_at, length-append, length-take}
@@ -14,8 +14,12 @@ use Rattle.np_file.specs.declared.fault.NpyFault.TheVariants.{BadMagic, BadVersi
 use Rattle.np_file.specs.Header.{Heading, IsHeader}
 use Rattle.np_file.specs.Npy.{magic, version, HasHeader, descr_of, element_size, words_of, shape_of, IsNpy, Readable, NamesNoKind, IsTooLarge, HasOtherLength, NpyRefusal, IsOnly, IsRefused}
 use Rattle.np_file.specs.Reading.{stripped, header_at}
-use Rattle.np_file.specs.Loading.{◌>>=◌, or_fault, text_at, preamble_at, kind_of, Plan, sized, limited, plan_at, array_of, array_at, Answers}
+use Rattle.np_file.specs.Loading.{◌>>=◌, or_fault, text_at, preamble_at, kind_of, Plan, sized, limited, plan_at, array_of, array_at, Answers, first_words}
 use Rattle.np_file.proofs.Pieces.{chosen_some, some_is, stripped_took, stripped_read}
+use Rattle.view_places.specs.Shape.{extents}
+use Rattle.np_file.specs.declared.reading.Layout.{Layout}
+use Rattle.np_file.specs.Views.{view_layout, FitsElements}
+use Rattle.np_file.proofs.Elements.{words_are}
 use Rattle.np_file.proofs.Fields.{header_took, header_read}
 
 -- ---- tools
@@ -121,12 +125,22 @@ text_read low high text elements len =
     let long : ltb (length (text ++ elements)) (low + 256 * high) ≡ false = le-ltb _ _ (omega (arith, length-append text elements)) in
     rw (long, take_at text elements (low + 256 * high) len, drop_at text elements (low + 256 * high) len) refl
 
+-- reading from the header's text on, from its length on and from the version on
+abbrev from_text : List ℕ → List ℕ → Result (Heading × List ℕ) NpyFault
+from_text text elements = or_fault BadHeader (header_at text) >>= λ heading. Ok (heading, elements)
+
+abbrev from_length : List ℕ → Result (Heading × List ℕ) NpyFault
+from_length behind = or_fault BadHeader (text_at behind) >>= λ text. from_text text.0 text.1
+
+abbrev from_version : List ℕ → Result (Heading × List ℕ) NpyFault
+from_version rest = or_fault BadVersion (stripped version rest) >>= from_length
+
 preamble_took : (bytes : List ℕ) (h : Heading) (elements : List ℕ) → preamble_at bytes ≡ Ok (h, elements) → HasHeader bytes h elements
 unfolding preamble_at
 preamble_took bytes h elements e =
-    let a = bind_ok (or_fault BadMagic (stripped magic bytes)) (λ rest. or_fault BadVersion (stripped version rest) >>= λ behind. or_fault BadHeader (text_at behind) >>= λ text. or_fault BadHeader (header_at text.0) >>= λ heading. Ok (heading, text.1)) (h, elements) e in
-    let b = bind_ok (or_fault BadVersion (stripped version a.0)) (λ behind. or_fault BadHeader (text_at behind) >>= λ text. or_fault BadHeader (header_at text.0) >>= λ heading. Ok (heading, text.1)) (h, elements) a.2 in
-    let c = bind_ok (or_fault BadHeader (text_at b.0)) (λ text. or_fault BadHeader (header_at text.0) >>= λ heading. Ok (heading, text.1)) (h, elements) b.2 in
+    let a = bind_ok (or_fault BadMagic (stripped magic bytes)) from_version (h, elements) e in
+    let b = bind_ok (or_fault BadVersion (stripped version a.0)) from_length (h, elements) a.2 in
+    let c = bind_ok (or_fault BadHeader (text_at b.0)) (λ text. from_text text.0 text.1) (h, elements) b.2 in
     let d = bind_ok (or_fault BadHeader (header_at c.0.0)) (λ heading. Ok (heading, c.0.1)) (h, elements) c.2 in
     let pair = ok_is (d.0, c.0.1) (h, elements) d.2 in
     let t = text_took b.0 c.0.0 c.0.1 (or_ok BadHeader (text_at b.0) c.0 c.1) in
@@ -148,9 +162,9 @@ preamble_read bytes h elements is =
     let b : or_fault BadVersion (stripped version (version ++ tail)) ≡ Ok tail = ap (or_fault BadVersion) (stripped_read version tail) in
     let c : or_fault BadHeader (text_at tail) ≡ Ok (is.text, elements) = ap (or_fault BadHeader) (text_read is.low is.high is.text elements is.text_len) in
     let d : or_fault BadHeader (header_at is.text) ≡ Ok h = ap (or_fault BadHeader) (header_read is.text h is.is_header) in
-    seq (or_fault BadMagic (stripped magic bytes)) (λ rest. or_fault BadVersion (stripped version rest) >>= λ behind. or_fault BadHeader (text_at behind) >>= λ text. or_fault BadHeader (header_at text.0) >>= λ heading. Ok (heading, text.1)) (version ++ tail) _ a
-    (seq (or_fault BadVersion (stripped version (version ++ tail))) (λ behind. or_fault BadHeader (text_at behind) >>= λ text. or_fault BadHeader (header_at text.0) >>= λ heading. Ok (heading, text.1)) tail _ b
-    (seq (or_fault BadHeader (text_at tail)) (λ text. or_fault BadHeader (header_at text.0) >>= λ heading. Ok (heading, text.1)) (is.text, elements) _ c
+    seq (or_fault BadMagic (stripped magic bytes)) from_version (version ++ tail) _ a
+    (seq (or_fault BadVersion (stripped version (version ++ tail))) from_length tail _ b
+    (seq (or_fault BadHeader (text_at tail)) (λ text. from_text text.0 text.1) (is.text, elements) _ c
     (seq (or_fault BadHeader (header_at is.text)) (λ heading. Ok (heading, elements)) h _ d refl)))
 
 -- the bytes have no header where reading stops, and the fault is then one of three
@@ -167,27 +181,27 @@ header_refused bytes f begins e is = subst (NpyRefusal bytes) is (begins.magic_i
 preamble_refused : (bytes : List ℕ) (f : NpyFault) → preamble_at bytes ≡ Err f → NpyRefusal bytes f
 unfolding preamble_at
 preamble_refused bytes f e =
-    elim (bind_err {B = Heading × List ℕ} (or_fault BadMagic (stripped magic bytes)) (λ rest. or_fault BadVersion (stripped version rest) >>= λ behind. or_fault BadHeader (text_at behind) >>= λ text. or_fault BadHeader (header_at text.0) >>= λ heading. Ok (heading, text.1)) f e) [
+    elim (bind_err {B = Heading × List ℕ} (or_fault BadMagic (stripped magic bytes)) from_version f e) [
       | inl x ↦ let o = or_err BadMagic (stripped magic bytes) f x in subst (NpyRefusal bytes) o.1 (stripped_none magic bytes o.0)
       | inr a ↦ at_version a.0 (or_ok BadMagic (stripped magic bytes) a.0 a.1) a.2
     ]
   where
-    at_header : (text elements : List ℕ) → Begins bytes → (or_fault BadHeader (header_at text) >>= λ heading. Ok (heading, elements)) ≡ Err f → NpyRefusal bytes f
+    at_header : (text elements : List ℕ) → Begins bytes → from_text text elements ≡ Err f → NpyRefusal bytes f
     at_header text elements begins g =
         elim (bind_err {B = Heading × List ℕ} (or_fault BadHeader (header_at text)) (λ heading. Ok (heading, elements)) f g) [
           | inl x ↦ header_refused bytes f begins e (or_err BadHeader (header_at text) f x).1
           | inr a ↦ absurd cc
         ]
-    at_text : (behind : List ℕ) → Begins bytes → (or_fault BadHeader (text_at behind) >>= λ text. or_fault BadHeader (header_at text.0) >>= λ heading. Ok (heading, text.1)) ≡ Err f → NpyRefusal bytes f
+    at_text : (behind : List ℕ) → Begins bytes → from_length behind ≡ Err f → NpyRefusal bytes f
     at_text behind begins g =
-        elim (bind_err {B = Heading × List ℕ} (or_fault BadHeader (text_at behind)) (λ text. or_fault BadHeader (header_at text.0) >>= λ heading. Ok (heading, text.1)) f g) [
+        elim (bind_err {B = Heading × List ℕ} (or_fault BadHeader (text_at behind)) (λ text. from_text text.0 text.1) f g) [
           | inl x ↦ header_refused bytes f begins e (or_err BadHeader (text_at behind) f x).1
           | inr a ↦ at_header a.0.0 a.0.1 begins a.2
         ]
-    at_version : (rest : List ℕ) → stripped magic bytes ≡ Some rest → (or_fault BadVersion (stripped version rest) >>= λ behind. or_fault BadHeader (text_at behind) >>= λ text. or_fault BadHeader (header_at text.0) >>= λ heading. Ok (heading, text.1)) ≡ Err f → NpyRefusal bytes f
+    at_version : (rest : List ℕ) → stripped magic bytes ≡ Some rest → from_version rest ≡ Err f → NpyRefusal bytes f
     at_version rest found g =
         let front = stripped_front magic bytes rest found in
-        elim (bind_err {B = Heading × List ℕ} (or_fault BadVersion (stripped version rest)) (λ behind. or_fault BadHeader (text_at behind) >>= λ text. or_fault BadHeader (header_at text.0) >>= λ heading. Ok (heading, text.1)) f g) [
+        elim (bind_err {B = Heading × List ℕ} (or_fault BadVersion (stripped version rest)) from_length f g) [
           | inl x ↦ let o = or_err BadVersion (stripped version rest) f x in subst (NpyRefusal bytes) o.1 (front.0, subst (λ (r : List ℕ). take 2 r ≡ version → ⊥) (sym front.1) (stripped_none version rest o.0))
           | inr a ↦ let next = stripped_front version rest a.0 (or_ok BadVersion (stripped version rest) a.0 a.1) in
               at_text a.0 (record { magic_is = front.0; version_is = ap (take 2) front.1 ∙ next.0 }) a.2
@@ -300,33 +314,39 @@ preamble_fails bytes f e = fails (plan_at bytes) (λ plan. Ok (array_of plan)) f
 magic_fails : (bytes : List ℕ) → take 6 bytes ≢ magic → preamble_at bytes ≡ Err BadMagic
 unfolding preamble_at
 magic_fails bytes other =
-    fails (or_fault BadMagic (stripped magic bytes)) (λ rest. or_fault BadVersion (stripped version rest) >>= λ behind. or_fault BadHeader (text_at behind) >>= λ text. or_fault BadHeader (header_at text.0) >>= λ heading. Ok (heading, text.1)) BadMagic
+    fails (or_fault BadMagic (stripped magic bytes)) from_version BadMagic
     (ap (or_fault BadMagic) (none_stripped magic bytes other))
 
 version_fails : (bytes : List ℕ) → take 6 bytes ≡ magic → take 2 (drop 6 bytes) ≢ version → preamble_at bytes ≡ Err BadVersion
 unfolding preamble_at
 version_fails bytes is other =
-    seq (or_fault BadMagic (stripped magic bytes)) (λ rest. or_fault BadVersion (stripped version rest) >>= λ behind. or_fault BadHeader (text_at behind) >>= λ text. or_fault BadHeader (header_at text.0) >>= λ heading. Ok (heading, text.1)) (drop 6 bytes) _
+    seq (or_fault BadMagic (stripped magic bytes)) from_version (drop 6 bytes) _
     (ap (or_fault BadMagic) (front_stripped magic bytes is))
-    (fails (or_fault BadVersion (stripped version (drop 6 bytes))) (λ behind. or_fault BadHeader (text_at behind) >>= λ text. or_fault BadHeader (header_at text.0) >>= λ heading. Ok (heading, text.1)) BadVersion
+    (fails (or_fault BadVersion (stripped version (drop 6 bytes))) from_length BadVersion
     (ap (or_fault BadVersion) (none_stripped version (drop 6 bytes) other)))
 
 -- reading behind the version
-behind_version : (bytes : List ℕ) → Begins bytes → preamble_at bytes ≡ (or_fault BadHeader (text_at (drop 2 (drop 6 bytes))) >>= λ text. or_fault BadHeader (header_at text.0) >>= λ heading. Ok (heading, text.1))
+behind_version : (bytes : List ℕ) → Begins bytes → preamble_at bytes ≡ from_length (drop 2 (drop 6 bytes))
 unfolding preamble_at
 behind_version bytes begins =
-    seq (or_fault BadMagic (stripped magic bytes)) (λ rest. or_fault BadVersion (stripped version rest) >>= λ behind. or_fault BadHeader (text_at behind) >>= λ text. or_fault BadHeader (header_at text.0) >>= λ heading. Ok (heading, text.1)) (drop 6 bytes) _
+    seq (or_fault BadMagic (stripped magic bytes)) from_version (drop 6 bytes) _
     (ap (or_fault BadMagic) (front_stripped magic bytes begins.magic_is))
-    (seq (or_fault BadVersion (stripped version (drop 6 bytes))) (λ behind. or_fault BadHeader (text_at behind) >>= λ text. or_fault BadHeader (header_at text.0) >>= λ heading. Ok (heading, text.1)) (drop 2 (drop 6 bytes)) _
+    (seq (or_fault BadVersion (stripped version (drop 6 bytes))) from_length (drop 2 (drop 6 bytes)) _
     (ap (or_fault BadVersion) (front_stripped version (drop 6 bytes) begins.version_is)) refl)
+
+abbrev with_heading : List ℕ → Option Heading → Result (Heading × List ℕ) NpyFault
+with_heading elements o = or_fault BadHeader o >>= λ heading. Ok (heading, elements)
+
+abbrev with_text : Option (List ℕ × List ℕ) → Result (Heading × List ℕ) NpyFault
+with_text o = or_fault BadHeader o >>= λ text. from_text text.0 text.1
 
 header_fails : (bytes : List ℕ) → Begins bytes → (Readable bytes → ⊥) → preamble_at bytes ≡ Err BadHeader
 header_fails bytes begins none = by (text_at (drop 2 (drop 6 bytes))) (behind_version bytes begins)
   where
-    by_header : (text elements : List ℕ) (o : Option Heading) → preamble_at bytes ≡ (or_fault BadHeader o >>= λ heading. Ok (heading, elements)) → preamble_at bytes ≡ Err BadHeader
+    by_header : (text elements : List ℕ) (o : Option Heading) → preamble_at bytes ≡ with_heading elements o → preamble_at bytes ≡ Err BadHeader
     by_header text elements None e = e
     by_header text elements (Some h) e = absurd (none (record { heading = h; elements = elements; header = preamble_took bytes h elements e }))
-    by : (o : Option (List ℕ × List ℕ)) → preamble_at bytes ≡ (or_fault BadHeader o >>= λ text. or_fault BadHeader (header_at text.0) >>= λ heading. Ok (heading, text.1)) → preamble_at bytes ≡ Err BadHeader
+    by : (o : Option (List ℕ × List ℕ)) → preamble_at bytes ≡ with_text o → preamble_at bytes ≡ Err BadHeader
     by None e = e
     by (Some t) e = by_header t.0 t.1 (header_at t.0) e
 
@@ -400,3 +420,10 @@ either_one bytes = by (array_at bytes) refl
     by : (r : Result Array NpyFault) → array_at bytes ≡ r → ((a : Array) × IsNpy bytes a) ⊎ ((f : NpyFault) × NpyRefusal bytes f)
     by (Ok a) e = inl (a, array_took bytes a e)
     by (Err f) e = inr (f, array_refused bytes f e)
+
+pub loaded : (bytes : List ℕ) (l : Layout) (ws : List ℤ) → plan_at bytes ≡ Ok (view_layout l) → FitsElements l → ws ≡ first_words (view_layout l) l.count → array_at bytes ≡ Ok (record { kind = l.kind; shape = l.shape; words = ws })
+unfolding array_at
+loaded bytes l ws e fits is =
+    let words : words_of l.kind l.first_fastest (extents l.shape) l.elements.now ≡ ws = sym (is ∙ ap (first_words (view_layout l)) fits.count ∙ words_are l.kind l.first_fastest (extents l.shape) l.elements.now) in
+    let shape = sym fits.shape_is in
+    seq (plan_at bytes) (λ plan. Ok (array_of plan)) (view_layout l) _ e (ap (λ (a : Array). Ok a) (λ i. record { kind = l.kind; shape = shape i; words = words i }))

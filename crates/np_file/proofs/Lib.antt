@@ -4,3 +4,4 @@ pub mod Fields
 pub mod Elements
 pub mod Laws
 pub mod Turns
+pub mod Printed

@@ -4,6 +4,7 @@
 use Rattle.std.specs.Prelude.{◌≡◌, ◌≢◌, ℕ, ◌+◌, ◌-◌, ◌*◌, ◌%◌, ◌^◌, ◌<◌, ◌≤◌, ◌==◌, if◌then◌else◌, Bool, true, false, ◌⊎◌, ℤ, pos, List, [], ◌∷◌, ◌++◌, map, length, take, drop, replicate, reverse, slice_index, codes, Result, Ok, Err}
 use Rattle.std.specs.List.{flat_map, AllByRecursion}
 use Rattle.std.specs.Int.{w64, cast_signed, cast_unsigned}
+use Rattle.std.specs.Ordering.{int_eq}
 use Rattle.std.specs.Fmt.{decimal}
 use Rattle.byteorder.specs.Endian.{little_number, little_bytes}
 use Rattle.krn_base.specs.declared.kind.Kind.{Kind}
@@ -138,25 +139,28 @@ tuple_text [] = codes "()"
 tuple_text (n ∷ []) = codes "(" ++ (decimal n ++ codes ",)")
 tuple_text (n ∷ m ∷ ns) = codes "(" ++ (decimal n ++ more_numbers (m ∷ ns))
 
--- the dictionary, as Python prints it
-abbrev pub dictionary : Array → List ℕ
-dictionary a = codes "{'descr': '" ++ (descr_of a.kind ++ (codes "', 'fortran_order': False, 'shape': " ++ (tuple_text (extents a.shape) ++ codes ", }")))
+-- the dictionary of an array of this kind with these extents, as Python prints it
+abbrev pub dictionary : Kind → List ℕ → List ℕ
+dictionary kind ns = codes "{'descr': '" ++ (descr_of kind ++ (codes "', 'fortran_order': False, 'shape': " ++ (tuple_text ns ++ codes ", }")))
 
 -- the spaces with which ten bytes, a dictionary of n bytes, the spaces and a line feed have the least multiple of 64 bytes
 abbrev pub padding : ℕ → ℕ
 padding n = (64 - (n + 11) % 64) % 64
 
-abbrev pub header_text : Array → List ℕ
-header_text a = dictionary a ++ (replicate (padding (length (dictionary a))) 32 ++ 10 ∷ [])
+abbrev pub header_text : Kind → List ℕ → List ℕ
+header_text kind ns = dictionary kind ns ++ (replicate (padding (length (dictionary kind ns))) 32 ++ 10 ∷ [])
 
 -- the bytes of a word
 abbrev pub element : Kind → ℤ → List ℕ
 element kinds.Int64 z = little_bytes 8 (cast_unsigned w64 z)
-element kinds.Bool z = cast_unsigned w64 z ∷ []
+element kinds.Bool z = (if int_eq z (pos 0) then 0 else 1) ∷ []
 
 -- the file of an array
+abbrev pub file_text : Kind → List ℕ → List ℤ → List ℕ
+file_text kind ns zs = magic ++ (version ++ (little_bytes 2 (length (header_text kind ns)) ++ (header_text kind ns ++ flat_map (element kind) zs)))
+
 abbrev pub npy_text : Array → List ℕ
-npy_text a = magic ++ (version ++ (little_bytes 2 (length (header_text a)) ++ (header_text a ++ flat_map (element a.kind) a.words)))
+npy_text a = file_text a.kind (extents a.shape) a.words
 
 -- what may be written: a shape of rank 1 to 4 within the limits, and a word for each element, which is 0 or 1 where the
 -- kind is Bool

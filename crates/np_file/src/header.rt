@@ -62,7 +62,6 @@ fn after_number(text: &[u8], count: usize) -> Option<AfterNumber<'_>>
 }
 
 /// The numbers of a shape behind its first one.
-#[tactic(auto, using(crate::proofs::Turns::turn), unfolding(crate::specs::Reading::numbers_at))]
 fn more_numbers(first: u64, text: &[u8]) -> Option<(Numbers, &[u8])>
     ensures { Gives (λ read. (numbers read.0, read.1.now)) result (numbers_at 4 (first ∷ []) text.now) }
 {

@@ -6,6 +6,8 @@ mod header;
 mod numbers;
 mod parts;
 mod reading;
+mod writing;
 
 pub use fault::NpyFault;
 pub use reading::read_npy;
+pub use writing::write_npy;

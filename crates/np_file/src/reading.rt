@@ -24,6 +24,7 @@ pub const VERSION: [u8; 2] = [1, 0];
 const LIMIT: u64 = 1 << 22;
 
 /// An array that is still to be taken out of its elements.
+#[derive(Clone, Copy)]
 struct Layout<'a> {
     kind: Kind,
     first_fastest: bool,
