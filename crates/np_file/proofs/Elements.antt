@@ -3,6 +3,7 @@ use Rattle.std.proofs.Common.{◌≡◌, ℕ, zero, suc, ◌+◌, ◌-◌, ◌*�
 use Rattle.std.specs.Prelude.{ℤ}
 use Rattle.std.specs.List.{flat_map, range_with_len}
 use Rattle.std.proofs.Math.Nat.{mul-le-mul_left}
+use Rattle.std.proofs.Math.Seq.{take-length}
 use Rattle.std.proofs.lemmas.List.{reverse-append, length-reverse, append-nil}
 use Rattle.std.proofs.lemmas.List.Folds.{flat_map-map}
 use Rattle.std.proofs.lemmas.Simd.{map-map}
@@ -156,6 +157,17 @@ transposed_step [] k count some is lt = absurd (omega arith)
 transposed_step (n ∷ ns) k count some is lt =
     let positive_n : 0 < n = positive (element_count ns) n k (omega arith) in
     (ap (λ (x : ℕ). x / n) is ∙ divided n (element_count ns) positive_n, refl)
+
+pub transposed_up : (ns : List ℕ) (k count result : ℕ) → 1 ≤ length ns → count ≡ element_count ns → k < count → result ≡ transposed (take (length ns - 1) (drop 1 ns)) (k % (count / get_or ns 0 0)) → k / (count / get_or ns 0 0) + get_or ns 0 0 * result ≡ transposed ns k
+unfolding transposed
+transposed_up [] k count result some is lt e = absurd (omega arith)
+transposed_up (n ∷ ns) k count result some is lt e =
+    let c = element_count ns in
+    let s = transposed_step (n ∷ ns) k count some is lt in
+    let row : count / n ≡ c = s.0 in
+    let rest : take (suc (length ns) - 1) ns ≡ ns = ap (λ (x : ℕ). take x ns) (omega arith) ∙ take-length ns in
+    let inner : result ≡ transposed ns (k % c) = e ∙ ap (λ (x : List ℕ). transposed x (k % (count / n))) rest ∙ ap (λ (x : ℕ). transposed ns (k % x)) row in
+    ap (λ (x : ℕ). k / x + n * result) row ∙ ap (λ (x : ℕ). k / c + n * x) inner
 
 -- one more word
 pub words_more : (plan : Plan) (k : ℕ) (now new : List ℤ) (z : ℤ) → new ≡ now ++ z ∷ [] → z ≡ word plan.kind plan.elements (place_at plan.first_fastest plan.shape k) → now ≡ first_words plan k → new ≡ first_words plan (k + 1)

@@ -79,6 +79,7 @@ by_step_took left found ts ns rest (Next n us) again took e =
       few = omega (arith, m.few);
       took = one_more (length found) n m.more ts us rest took (subst (λ (x : ℕ). Took (numbers_after x m.more) us rest) len m.took);
     }
+
 numbers_took : (left : ℕ) (found ts ns rest : List ℕ) → numbers_at left found ts ≡ Some (ns, rest) → More left found ts ns rest
 unfolding numbers_at
 numbers_took zero found ts ns rest e = absurd cc

@@ -115,7 +115,8 @@ text_took (low ∷ high ∷ rest) text elements e =
     let text_is : take n rest ≡ text = ap (λ (p : List ℕ × List ℕ). p.0) t.1 in
     let back_is : drop n rest ≡ elements = ap (λ (p : List ℕ × List ℕ). p.1) t.1 in
     record {
-      low = low; high = high;
+      low = low;
+      high = high;
       parts = ap (λ (x : List ℕ). low ∷ high ∷ x) (sym (take-append-drop n rest) ∙ ap (λ (x : List ℕ). x ++ drop n rest) text_is ∙ ap (λ (x : List ℕ). text ++ x) back_is);
       len = sym (ap length text_is) ∙ omega (arith, length-take n rest);
     }
@@ -147,7 +148,9 @@ preamble_took bytes h elements e =
     let front = stripped_took magic bytes a.0 (or_ok BadMagic (stripped magic bytes) a.0 a.1) in
     let next = stripped_took version a.0 b.0 (or_ok BadVersion (stripped version a.0) b.0 b.1) in
     let whole : HasHeader bytes d.0 c.0.1 = record {
-      low = t.low; high = t.high; text = c.0.0;
+      low = t.low;
+      high = t.high;
+      text = c.0.0;
       parts = front ∙ ap (λ (x : List ℕ). magic ++ x) (next ∙ ap (λ (x : List ℕ). version ++ x) t.parts);
       text_len = t.len;
       is_header = header_took c.0.0 d.0 (or_ok BadHeader (header_at c.0.0) d.0 d.1);
@@ -192,12 +195,14 @@ preamble_refused bytes f e =
           | inl x ↦ header_refused bytes f begins e (or_err BadHeader (header_at text) f x).1
           | inr a ↦ absurd cc
         ]
+
     at_text : (behind : List ℕ) → Begins bytes → from_length behind ≡ Err f → NpyRefusal bytes f
     at_text behind begins g =
         elim (bind_err {B = Heading × List ℕ} (or_fault BadHeader (text_at behind)) (λ text. from_text text.0 text.1) f g) [
           | inl x ↦ header_refused bytes f begins e (or_err BadHeader (text_at behind) f x).1
           | inr a ↦ at_header a.0.0 a.0.1 begins a.2
         ]
+
     at_version : (rest : List ℕ) → stripped magic bytes ≡ Some rest → from_version rest ≡ Err f → NpyRefusal bytes f
     at_version rest found g =
         let front = stripped_front magic bytes rest found in
@@ -261,8 +266,14 @@ array_took bytes a e =
     let k = kind_took b.0.0.descr c.0 (or_ok BadKind (kind_of b.0.0.descr) c.0 c.1) in
     let l = limited_took c.0 b.0.0 b.0.1 p.0 c.2 in
     let whole : IsNpy bytes (array_of (plan_of c.0 b.0.0 b.0.1)) = record {
-      heading = b.0.0; elements = b.0.1; header = preamble_took bytes b.0.0 b.0.1 b.1;
-      kind_is = k; shape_is = refl; small = l.small; size = l.size; words_are = refl;
+      heading = b.0.0;
+      elements = b.0.1;
+      header = preamble_took bytes b.0.0 b.0.1 b.1;
+      kind_is = k;
+      shape_is = refl;
+      small = l.small;
+      size = l.size;
+      words_are = refl;
     } in
     subst (IsNpy bytes) (ap array_of l.plan_is ∙ ok_is (array_of p.0) a p.2) whole
 
@@ -281,6 +292,7 @@ array_refused bytes f e =
               subst (NpyRefusal bytes) o.1 (record { heading = h; elements = elements; header = header; none = λ kind is. let k = kind_found h.descr kind is in absurd cc })
           | inr a ↦ limited_refused bytes a.0 h elements f header (kind_took h.descr a.0 (or_ok BadKind (kind_of h.descr) a.0 a.1)) a.2
         ]
+
     at_plan : (preamble_at bytes >>= λ read. or_fault BadKind (kind_of read.0.descr) >>= λ kind. limited kind read.0 read.1) ≡ Err f → NpyRefusal bytes f
     at_plan g =
         elim (bind_err {B = Plan} (preamble_at bytes) (λ read. or_fault BadKind (kind_of read.0.descr) >>= λ kind. limited kind read.0 read.1) f g) [
@@ -346,6 +358,7 @@ header_fails bytes begins none = by (text_at (drop 2 (drop 6 bytes))) (behind_ve
     by_header : (text elements : List ℕ) (o : Option Heading) → preamble_at bytes ≡ with_heading elements o → preamble_at bytes ≡ Err BadHeader
     by_header text elements None e = e
     by_header text elements (Some h) e = absurd (none (record { heading = h; elements = elements; header = preamble_took bytes h elements e }))
+
     by : (o : Option (List ℕ × List ℕ)) → preamble_at bytes ≡ with_text o → preamble_at bytes ≡ Err BadHeader
     by None e = e
     by (Some t) e = by_header t.0 t.1 (header_at t.0) e

@@ -63,12 +63,31 @@ behind_descr ns n = codes ", 'fortran_order': False, 'shape': " ++ from_tuple ns
 
 behind_printed : (ns : List ℕ) (n : ℕ) → tuple ns (32 ∷ tuple_text ns) → (sign 44 ▷ field (entries.Order false) ▷ sign 44 ▷ field (entries.Shape ns) ▷ closing ▷ ending) (behind_descr ns n)
 unfolding behind_descr from_tuple
-behind_printed ns n is =
-    (codes ",", codes " 'fortran_order': False, 'shape': " ++ from_tuple ns n, refl, (0, refl),
-    (codes " 'fortran_order': False", codes ", 'shape': " ++ from_tuple ns n, refl, order_field,
-    (codes ",", codes " 'shape': " ++ from_tuple ns n, refl, (0, refl),
-    (codes " 'shape': " ++ tuple_text ns, codes ", }" ++ (replicate n 32 ++ 10 ∷ []), refl, shape_field ns is,
-    (codes ", }", replicate n 32 ++ 10 ∷ [], refl, closing_printed, (n, inr refl))))))
+behind_printed ns n is = (
+  codes ",",
+  codes " 'fortran_order': False, 'shape': " ++ from_tuple ns n,
+  refl,
+  (0, refl),
+  (
+    codes " 'fortran_order': False",
+    codes ", 'shape': " ++ from_tuple ns n,
+    refl,
+    order_field,
+    (
+      codes ",",
+      codes " 'shape': " ++ from_tuple ns n,
+      refl,
+      (0, refl),
+      (
+        codes " 'shape': " ++ tuple_text ns,
+        codes ", }" ++ (replicate n 32 ++ 10 ∷ []),
+        refl,
+        shape_field ns is,
+        (codes ", }", replicate n 32 ++ 10 ∷ [], refl, closing_printed, (n, inr refl)),
+      ),
+    ),
+  ),
+)
 
 fields_printed : (kind : Kind) (ns : List ℕ) (n : ℕ) → tuple ns (32 ∷ tuple_text ns) → fields (entries.Descr (descr_of kind)) (entries.Order false) (entries.Shape ns) (codes "{'descr': '" ++ (descr_of kind ++ (39 ∷ behind_descr ns n)))
 fields_printed kinds.Int64 ns n is = (codes "{", codes "'descr': '<i8'" ++ behind_descr ns n, refl, refl, (codes "'descr': '<i8'", behind_descr ns n, refl, descr_field kinds.Int64, behind_printed ns n is))
@@ -86,7 +105,9 @@ unfolding behind_descr from_tuple
 header_printed kind ns some few small =
     let n = padding (length (dictionary kind ns)) in
     record {
-      first = entries.Descr (descr_of kind); second = entries.Order false; third = entries.Shape ns;
+      first = entries.Descr (descr_of kind);
+      second = entries.Order false;
+      third = entries.Shape ns;
       arranged_is = refl;
       text_is = subst (fields (entries.Descr (descr_of kind)) (entries.Order false) (entries.Shape ns)) (sym (text_is kind ns (replicate n 32 ++ 10 ∷ []))) (fields_printed kind ns n (tuple_printed ns some few small));
     }
@@ -192,7 +213,9 @@ printed a is len some small count are fits =
     let n_small : n < 2 ^ 10 = length-header a.kind ns few extents_are in
     let elements = flat_map (element a.kind) a.words in
     let header : HasHeader (npy_text a) (heading_of a.kind ns) elements = record {
-      low = get_or (little_bytes 2 n) 0 0; high = get_or (little_bytes 2 n) 1 0; text = header_text a.kind ns;
+      low = get_or (little_bytes 2 n) 0 0;
+      high = get_or (little_bytes 2 n) 1 0;
+      text = header_text a.kind ns;
       parts = refl;
       text_len = omega arith;
       is_header = header_printed a.kind ns some_ns few extents_are;
@@ -200,12 +223,17 @@ printed a is len some small count are fits =
     let size : length elements ≡ element_size a.kind * element_count ns = length-elements a.kind a.words ∙ ap (λ (k : ℕ). element_size a.kind * k) count in
     let words : map (word a.kind elements) (range_with_len 0 (element_count ns)) ≡ a.words = ap (λ (k : ℕ). map (word a.kind elements) (range_with_len 0 k)) (sym count) ∙ file_words a.kind a.words (good_words a.kind a.words fits are) in
     record {
-      heading = heading_of a.kind ns; elements = elements; header = header; kind_is = refl;
-      shape_is = shape_again a.shape is len; small = small; size = size;
+      heading = heading_of a.kind ns;
+      elements = elements;
+      header = header;
+      kind_is = refl;
+      shape_is = shape_again a.shape is len;
+      small = small;
+      size = size;
       words_are = sym words ∙ words_are a.kind false ns elements;
     }
 
 -- numbers of 64 bits, at each place
-pub all_fit : (zs : List ℤ) → ((i : ℕ) → FitsSigned w64 (get_or zs i (pos 0))) → AllByRecursion (FitsSigned w64) zs
+pub all_fit : (zs : List ℤ) → ((i : ℕ) → i < length zs → FitsSigned w64 (get_or zs i (pos 0))) → AllByRecursion (FitsSigned w64) zs
 all_fit [] fits = tt
-all_fit (z ∷ zs) fits = (fits 0, all_fit zs (λ i. fits (suc i)))
+all_fit (z ∷ zs) fits = (fits 0 (omega arith), all_fit zs (λ i lt. fits (suc i) (omega arith)))

@@ -1,3 +1,6 @@
+ghost use Rattle.std.specs.Prelude.{◌≡◌};
+
+use std::alloc::AllocError;
 use thiserror::Error;
 
 /// Why bytes are no array file: the first part that breaks the form, in this order. Want of memory is the last.
@@ -24,4 +27,14 @@ pub enum NpyFault {
     /// Memory is wanting.
     #[error("memory is wanting")]
     Memory,
+}
+
+impl From<AllocError> for NpyFault {
+    ghost use Rattle.np_file.specs.declared.fault.NpyFault.TheVariants.{Memory};
+
+    ghost from_gives = { λ _ fault. fault ≡ Memory };
+
+    fn from(_error: AllocError) -> NpyFault {
+        NpyFault::Memory
+    }
 }

@@ -11,3 +11,6 @@ mod writing;
 pub use fault::NpyFault;
 pub use reading::read_npy;
 pub use writing::write_npy;
+
+#[cfg(test)]
+mod tests;

@@ -208,13 +208,7 @@ fn element_word(kind: Kind, elements: &[u8], k: usize) -> i64
 {
     match kind {
         Kind::Int64 => LittleEndian::read_i64(&elements[8 * k..]),
-        Kind::Bool => {
-            if elements[k] == 0 {
-                0
-            } else {
-                1
-            }
-        }
+        Kind::Bool => { if elements[k] == 0 { 0 } else { 1 } }
     }
 }
 
@@ -237,7 +231,7 @@ fn load(alloc: Global, bytes: &[u8]) -> Result<Array, NpyFault>
     ensures { Answers result (array_at bytes.now) }
 {
     let layout = layout_of(bytes)?;
-    let words = words(alloc, &layout).map_err(|_| NpyFault::Memory)?;
+    let words = words(alloc, &layout)?;
     Ok(Array {
         kind: layout.kind,
         shape: layout.shape,

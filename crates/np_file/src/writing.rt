@@ -2,7 +2,9 @@ ghost use Rattle.std.specs.Prelude.{◌≡◌, ◌+◌, ◌<◌, ◌≤◌, ◌^
 ghost use Rattle.view_places.specs.Arrays.{element_count, is_small};
 ghost use Rattle.view_places.specs.Shape.{IsShape, extents};
 ghost use Rattle.std.specs.Fmt.{decimal};
-ghost use Rattle.std.specs.List.{flat_map};
+ghost use Rattle.std.specs.List.{flat_map, AllByRecursion};
+ghost use Rattle.std.specs.Int.{w64};
+ghost use Rattle.std.specs.Int.RustNames.{FitsSigned};
 ghost use Rattle.np_file.specs.Npy.{IsNpy, AreWords, descr_of, dictionary, element, file_text, header_text, more_numbers, npy_text, padding, tuple_text};
 
 use crate::reading::{MAGIC, VERSION};
@@ -104,7 +106,8 @@ fn header_of(alloc: Global, kind: Kind, extents: &[u32]) -> Result<Vec<u8>, Allo
 
 /// The bytes of the elements, in row-major order.
 fn push_elements(out: &mut Vec<u8>, kind: Kind, words: &[i64]) -> Result<(), AllocError>
-    ensures { OnOk result (out.new.items ≡ out.old.items ++ flat_map (element kind) words.now) }
+    ensures text { OnOk result (out.new.items ≡ out.old.items ++ flat_map (element kind) words.now) }
+    ensures fits { OnOk result (AllByRecursion (FitsSigned w64) words.now) }
 {
     for word in words {
         push_element(out, kind, *word)?;
@@ -126,15 +129,11 @@ fn push_element(out: &mut Vec<u8>, kind: Kind, word: i64) -> Result<(), AllocErr
 }
 
 /// The file of an array of this kind, with these extents and words.
-fn file_of(
-    alloc: Global,
-    kind: Kind,
-    extents: &[u32],
-    words: &[i64],
-) -> Result<Vec<u8>, AllocError>
+fn file_of(alloc: Global, kind: Kind, extents: &[u32], words: &[i64]) -> Result<Vec<u8>, AllocError>
     requires rank { length extents.now ≤ 4 }
     requires small { is_small extents.now ≡ true }
-    ensures { IfOk result (λ v. v.items ≡ file_text kind extents.now words.now) }
+    ensures text { IfOk result (λ v. v.items ≡ file_text kind extents.now words.now) }
+    ensures fits { OnOk result (AllByRecursion (FitsSigned w64) words.now) }
 {
     let header = header_of(alloc, kind, extents)?;
     let mut len = [0u8; 2];
