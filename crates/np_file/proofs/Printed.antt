@@ -232,8 +232,3 @@ printed a is len some small count are fits =
       size = size;
       words_are = sym words ∙ words_are a.kind false ns elements;
     }
-
--- numbers of 64 bits, at each place
-pub all_fit : (zs : List ℤ) → ((i : ℕ) → i < length zs → FitsSigned w64 (get_or zs i (pos 0))) → AllByRecursion (FitsSigned w64) zs
-all_fit [] fits = tt
-all_fit (z ∷ zs) fits = (fits 0 (omega arith), all_fit zs (λ i lt. fits (suc i) (omega arith)))

@@ -1,6 +1,6 @@
 -- The numbers of a shape, one after the other, and loops that push.
-use Rattle.std.proofs.Common.{◌≡◌, ℕ, suc, ◌+◌, ◌-◌, ◌*◌, ◌<◌, ◌≤◌, List, [], ◌∷◌, ◌++◌, length, get_or, take, set, Option, Some, None, refl, sym, ap, ◌∙◌, arith}
-use Rattle.std.specs.List.{flat_map}
+use Rattle.std.proofs.Common.{◌≡◌, ℕ, zero, suc, ◌+◌, ◌-◌, ◌*◌, ◌<◌, ◌≤◌, List, [], ◌∷◌, ◌++◌, length, get_or, take, set, Option, Some, None, refl, sym, ap, ◌∙◌, arith}
+use Rattle.std.specs.List.{flat_map, AllByRecursion}
 use Rattle.std.proofs.lemmas.Grind.{take-set_at, take_at_read}
 use Rattle.std.proofs.lemmas.List.{flat_map_more, length-take}
 use Rattle.np_file.specs.Reading.{◌>>=◌, Step, step_at, by_step, numbers_at}
@@ -52,3 +52,15 @@ pub pushed : {X : Type 0} (f : X → List ℕ) (start now new : List ℕ) (xs : 
 pushed f start now new xs i d lt e g =
     let t = (take_at_read xs i d lt).1 in
     e ∙ ap (λ (x : List ℕ). x ++ f (get_or xs i d)) g ∙ flat_map_more f start (take i xs) (get_or xs i d) ∙ ap (λ (ys : List _). start ++ flat_map f ys) (sym t)
+
+-- what holds of each element so far, and of one more
+pub all_more : {X : Type 0} (P : X → Type 0) (xs : List X) (i : ℕ) (d : X) → i < length xs → AllByRecursion P (take i xs) → P (get_or xs i d) → AllByRecursion P (take (i + 1) xs)
+all_more P [] i d lt all p = absurd (omega arith)
+all_more P (x ∷ xs) zero d lt all p = (p, tt)
+all_more P (x ∷ xs) (suc i) d lt all p = let e : suc i + 1 ≡ suc (i + 1) = omega arith in rw e (all.0, all_more P xs i d (omega arith) all.1 p)
+
+-- what holds of each element up to the end
+pub all_whole : {X : Type 0} (P : X → Type 0) (xs : List X) (n : ℕ) → length xs ≤ n → AllByRecursion P (take n xs) → AllByRecursion P xs
+all_whole P [] n le all = tt
+all_whole P (x ∷ xs) zero le all = absurd (omega arith)
+all_whole P (x ∷ xs) (suc n) le all = (all.0, all_whole P xs n (omega arith) all.1)
