@@ -1,13 +1,13 @@
 -- A header is read as what it says, and only as that.
-use Rattle.std.proofs.Common.{◌≡◌, ℕ, zero, suc, ◌+◌, ◌-◌, ◌*◌, ◌^◌, ◌<◌, ◌≤◌, Bool, true, false, cond, not, ◌&&◌, ◌||◌, eqb, ltb, leb, List, [], ◌∷◌, ◌++◌, length, get_or, take, drop, replicate, Option, Some, None, refl, sym, ap, subst, ◌∙◌, append_assoc, arith, inl, inr, ◌⊎◌}
+use Rattle.std.proofs.Common.{◌≡◌, ℕ, zero, suc, ◌<◌, Bool, true, false, cond, eqb, leb, List, [], ◌∷◌, ◌++◌, length, replicate, Option, Some, None, refl, sym, ap, subst, ◌∙◌, append_assoc, arith, inl, inr, ◌⊎◌}
 use Rattle.std.specs.Prelude.{codes}
 use Rattle.std.specs.Str.{bytes_eq}
 use Rattle.std.proofs.lemmas.Bool.{eqb-true, leb-true, le-leb}
 use Rattle.std.proofs.lemmas.List.{append-nil, length-append, nil_from_length}
 use Rattle.std.proofs.lemmas.Slice.Eq.{bytes_eq-Decides}
-use Rattle.np_file.specs.Header.{◌▷◌, ◌∣◌, Heading, Field, arranged, spaced, sign, quoted, number, numbers_after, tuple, key, truth, value, field, closing, ending, fields, IsHeader}
+use Rattle.np_file.specs.Header.{◌▷◌, Heading, Field, arranged, spaced, sign, quoted, number, numbers_after, tuple, key, truth, value, field, closing, ending, fields, IsHeader}
 use Rattle.np_file.specs.Header.Field.{Descr, Order, Shape}
-use Rattle.np_file.specs.Reading.{◌>>=◌, after_spaces, first_is, sign_at, word_at, quoted_at, number_at, Step, number_or_end, short_end, by_comma, step_at, by_step, numbers_at, tuple_at, other_truth, truth_at, descr_at, order_at, shape_at, value_at, field_at, or_same, is_line_end, ended, ends_at, ending_of, fields_at, header_at}
+use Rattle.np_file.specs.Reading.{◌>>=◌, after_spaces, first_is, sign_at, word_at, quoted_at, number_at, Step, number_or_end, short_end, by_comma, step_at, by_step, numbers_at, tuple_at, other_truth, truth_at, descr_at, order_at, shape_at, value_at, field_at, is_line_end, ended, ends_at, ending_of, fields_at, header_at}
 use Rattle.np_file.specs.Reading.Step.{Next, End}
 use Rattle.np_file.proofs.Pieces.{bind_some, chosen_some, some_is, both_true, Took, then, split_spaces, skip, skip_all, sign_took, sign_read, other_sign, word_took, word_read, other_word, quoted_took, quoted_read, number_took, Stops, number_read, sign_stops, number_no_sign}
 

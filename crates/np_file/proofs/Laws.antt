@@ -1,5 +1,5 @@
 -- What is read is what the bytes are a file of, or the first part that breaks the form.
-use Rattle.std.proofs.Common.{◌≡◌, ℕ, zero, suc, ◌+◌, ◌-◌, ◌*◌, ◌<◌, ◌≤◌, Bool, true, false, cond, eqb, ltb, List, [], ◌∷◌, ◌++◌, length, take, drop, Option, Some, None, Result, Ok, Err, refl, sym, ap, subst, ◌∙◌, append_assoc, arith, inl, inr, ◌⊎◌}
+use Rattle.std.proofs.Common.{◌≡◌, ℕ, ◌+◌, ◌*◌, ◌≤◌, Bool, true, false, cond, eqb, ltb, List, [], ◌∷◌, ◌++◌, length, take, drop, Option, Some, None, Result, Ok, Err, refl, sym, ap, subst, ◌∙◌, arith, inl, inr, ◌⊎◌}
 use Rattle.std.specs.Prelude.{ℤ, codes, ◌≢◌, IfOk, IfErr}
 use Rattle.std.specs.Str.{bytes_eq}
 use Rattle.std.proofs.lemmas.Bool.{eqb-true, eqb-false, eq-eqb, ltb-false, le-ltb}
@@ -11,10 +11,10 @@ use Rattle.view_places.specs.declared.shape.Array.{Array}
 use Rattle.view_places.specs.Arrays.{element_count, is_small}
 use Rattle.np_file.specs.declared.fault.NpyFault.{NpyFault}
 use Rattle.np_file.specs.declared.fault.NpyFault.TheVariants.{BadMagic, BadVersion, BadHeader, BadKind, TooLarge, BadLength, Memory}
-use Rattle.np_file.specs.Header.{Heading, IsHeader}
+use Rattle.np_file.specs.Header.{Heading}
 use Rattle.np_file.specs.Npy.{magic, version, HasHeader, descr_of, element_size, words_of, shape_of, IsNpy, Readable, NamesNoKind, IsTooLarge, HasOtherLength, NpyRefusal, IsOnly, IsRefused}
 use Rattle.np_file.specs.Reading.{stripped, header_at}
-use Rattle.np_file.specs.Loading.{◌>>=◌, or_fault, text_at, preamble_at, kind_of, Plan, sized, limited, plan_at, array_of, array_at, Answers, first_words}
+use Rattle.np_file.specs.Loading.{◌>>=◌, or_fault, text_at, preamble_at, kind_of, Plan, limited, plan_at, array_of, array_at, Answers, first_words}
 use Rattle.np_file.proofs.Pieces.{chosen_some, some_is, stripped_took, stripped_read}
 use Rattle.view_places.specs.Shape.{extents}
 use Rattle.np_file.specs.declared.reading.Layout.{Layout}

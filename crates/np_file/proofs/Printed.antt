@@ -1,7 +1,6 @@
 -- The file that is written for an array is a file of it.
-use Rattle.std.proofs.Common.{◌≡◌, ℕ, zero, suc, ◌+◌, ◌-◌, ◌*◌, ◌/◌, ◌%◌, ◌^◌, ◌<◌, ◌≤◌, Bool, true, false, cond, eqb, leb, List, [], ◌∷◌, ◌++◌, map, length, get_or, take, drop, replicate, refl, sym, ap, subst, ◌∙◌, append_assoc, arith, inl, inr, ◌⊎◌}
-use Rattle.std.specs.Prelude.{codes, ℤ, pos, slice_index, nat_le}
-use Rattle.std.specs.Ordering.{int_eq}
+use Rattle.std.proofs.Common.{◌≡◌, ℕ, zero, suc, ◌+◌, ◌-◌, ◌*◌, ◌^◌, ◌<◌, ◌≤◌, true, false, List, [], ◌∷◌, ◌++◌, map, length, get_or, take, drop, replicate, refl, sym, ap, subst, ◌∙◌, append_assoc, arith, inl, inr}
+use Rattle.std.specs.Prelude.{codes, ℤ, nat_le}
 use Rattle.std.specs.List.{flat_map, range_with_len, list_all, AllByRecursion}
 use Rattle.std.specs.Int.{w64, cast_signed, cast_unsigned}
 use Rattle.std.specs.Int.RustNames.{FitsSigned}
@@ -9,7 +8,7 @@ use Rattle.std.specs.Fmt.{decimal}
 use Rattle.std.proofs.Math.Facts.{Fits-of_z}
 use Rattle.std.proofs.lemmas.Int.{to_z-of_z}
 use Rattle.std.proofs.lemmas.Bool.{leb-true}
-use Rattle.std.proofs.lemmas.List.{length-append, length-take, take-append-drop, append-nil}
+use Rattle.std.proofs.lemmas.List.{length-append, take-append-drop}
 use Rattle.std.proofs.lemmas.Fmt.{length-decimal-le}
 use Rattle.byteorder.specs.Endian.{little_number, little_bytes}
 use Rattle.byteorder.specs.Numbers.{little_number-reads_back, length-bytes_low_first}
@@ -20,8 +19,8 @@ use Rattle.view_places.specs.declared.shape.Shape.{Shape}
 use Rattle.view_places.specs.Arrays.{element_count, is_small}
 use Rattle.view_places.specs.Shape.{extents, IsShape}
 use Rattle.np_file.specs.Header.{Field as entries}
-use Rattle.np_file.specs.Header.{◌▷◌, Heading, Field, arranged, spaced, sign, quoted, number, numbers_after, tuple, value, field, closing, ending, fields, IsHeader}
-use Rattle.np_file.specs.Npy.{magic, version, HasHeader, descr_of, element_size, word, words_of, shape_of, IsNpy, more_numbers, tuple_text, dictionary, padding, header_text, element, npy_text, IsTruth, AreWords}
+use Rattle.np_file.specs.Header.{◌▷◌, Heading, sign, numbers_after, tuple, field, closing, ending, fields, IsHeader}
+use Rattle.np_file.specs.Npy.{HasHeader, descr_of, element_size, word, shape_of, IsNpy, more_numbers, tuple_text, dictionary, padding, header_text, element, npy_text, IsTruth, AreWords}
 use Rattle.np_file.proofs.Pieces.{both_true}
 use Rattle.np_file.proofs.Elements.{map_along, words_are}
 

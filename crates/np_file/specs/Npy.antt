@@ -1,7 +1,7 @@
 -- Array files: a relation between bytes and arrays, the first part of the bytes that breaks it, and the one form that is
 -- written. The form is version 1.0 of the NumPy reference's `.npy`, in the element types `<i8` and `|b1`; the limit of
 -- 2^22 elements is this project's own.
-use Rattle.std.specs.Prelude.{◌≡◌, ◌≢◌, ℕ, ◌+◌, ◌-◌, ◌*◌, ◌%◌, ◌^◌, ◌<◌, ◌≤◌, ◌==◌, if◌then◌else◌, Bool, true, false, ◌⊎◌, ℤ, pos, List, [], ◌∷◌, ◌++◌, map, length, take, drop, replicate, reverse, slice_index, codes, Result, Ok, Err}
+use Rattle.std.specs.Prelude.{◌≡◌, ◌≢◌, ℕ, ◌+◌, ◌-◌, ◌*◌, ◌%◌, ◌==◌, if◌then◌else◌, Bool, true, false, ◌⊎◌, ℤ, pos, List, [], ◌∷◌, ◌++◌, map, length, take, drop, replicate, reverse, slice_index, codes, Result, Ok, Err}
 use Rattle.std.specs.List.{flat_map, AllByRecursion}
 use Rattle.std.specs.Int.{w64, cast_signed, cast_unsigned}
 use Rattle.std.specs.Ordering.{int_eq}

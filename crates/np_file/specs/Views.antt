@@ -1,6 +1,5 @@
 -- What the code's values stand for, without where they lie in memory.
-use Rattle.std.specs.Prelude.{◌≡◌, ℕ, ◌*◌, ◌^◌, ◌≤◌, List, length, take, Bool}
-use Rattle.krn_base.specs.declared.kind.Kind.{Kind}
+use Rattle.std.specs.Prelude.{◌≡◌, ℕ, ◌*◌, ◌^◌, ◌≤◌, List, length, take}
 use Rattle.view_places.specs.Shape.{extents}
 use Rattle.view_places.specs.Arrays.{element_count}
 use Rattle.np_file.specs.Npy.{element_size, shape_of}

@@ -1,4 +1,4 @@
-use Rattle.std.proofs.Common.{◌≡◌, ◌^◌, ◌-◌, ◌*◌, min, get_or, ap, ◌∙◌}
+use Rattle.std.proofs.Common.{◌^◌, ◌-◌, ◌*◌, min, get_or, ap, ◌∙◌}
 use Rattle.np_file.proofs.Counting.{count_more}
 use Rattle.np_file.proofs.reading.bounded_count.Goals as goal
 

@@ -1,4 +1,4 @@
-use Rattle.std.proofs.Common.{◌≡◌, ◌≤◌, ◌<◌, ◌^◌, length, ap, arith}
+use Rattle.std.proofs.Common.{◌≡◌, ◌<◌, ◌^◌, length, ap, arith}
 use Rattle.np_file.specs.Npy.{header_text}
 use Rattle.np_file.proofs.Printed.{are_small, length-dictionary, length-header}
 use Rattle.np_file.proofs.writing.file_of.Goals as goal
