@@ -1,0 +1,5 @@
+pub mod Header
+pub mod Npy
+pub mod Reading
+pub mod Loading
+pub mod Views
