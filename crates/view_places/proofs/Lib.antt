@@ -5,6 +5,7 @@ pub mod Joins
 pub mod OneShape
 pub mod Operations
 pub mod PartLemmas
+pub mod Picks
 pub mod Reach
 pub mod Settled
 pub mod Shapes

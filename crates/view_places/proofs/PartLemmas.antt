@@ -185,26 +185,26 @@ pub reverse-one : (a b : List ℕ) → reverse a ≡ reverse b → a ≡ b
 reverse-one a b e = sym (reverse-reverse a) ∙ ap reverse e ∙ reverse-reverse b
 
 -- ---- another extent of one dimension
-take-set-lt : (rank axis m : ℕ) (xs : List ℕ) → axis < rank → take rank (set xs axis m) ≡ set (take rank xs) axis m
+pub take-set-lt : (rank axis m : ℕ) (xs : List ℕ) → axis < rank → take rank (set xs axis m) ≡ set (take rank xs) axis m
 take-set-lt zero axis m xs h = absurd (omega arith)
 take-set-lt (suc rank) axis m [] h = refl
 take-set-lt (suc rank) zero m (x ∷ xs) h = refl
 take-set-lt (suc rank) (suc axis) m (x ∷ xs) h = ap (λ (ys : List ℕ). x ∷ ys) (take-set-lt rank axis m xs (omega arith))
 
-limited-set : (ns : List ℕ) (axis m : ℕ) → m ≤ 2 ^ 22 → Limited ns → Limited (set ns axis m)
+pub limited-set : (ns : List ℕ) (axis m : ℕ) → m ≤ 2 ^ 22 → Limited ns → Limited (set ns axis m)
 limited-set [] axis m h k = tt
 limited-set (n ∷ ns) zero m h k = (h, k.1)
 limited-set (n ∷ ns) (suc axis) m h k = (k.0, limited-set ns axis m h k.1)
 
-count-set : (ns : List ℕ) (axis m : ℕ) → m ≤ get_or ns axis 0 → element_count (set ns axis m) ≤ element_count ns
+pub count-set : (ns : List ℕ) (axis m : ℕ) → m ≤ get_or ns axis 0 → element_count (set ns axis m) ≤ element_count ns
 count-set [] axis m h = omega arith
 count-set (n ∷ ns) zero m h = mul-le-mul_right {m = m} {n = n} (element_count ns) h
 count-set (n ∷ ns) (suc axis) m h = mul-le-mul_left n (count-set ns axis m h)
 
-mul-add : (s a b : ℤ) → s *ℤ (a +ℤ b) ≡ (s *ℤ a) +ℤ (s *ℤ b)
+pub mul-add : (s a b : ℤ) → s *ℤ (a +ℤ b) ≡ (s *ℤ a) +ℤ (s *ℤ b)
 mul-add s a b = omega (arith, ints, ap (λ (n : ℕ). up s * n) (sum_is_lem a b), ap (λ (n : ℕ). down s * n) (sum_is_lem a b))
 
-mul-swap : (s t : ℤ) (k : ℕ) → s *ℤ (pos k *ℤ t) ≡ (s *ℤ t) *ℤ pos k
+pub mul-swap : (s t : ℤ) (k : ℕ) → s *ℤ (pos k *ℤ t) ≡ (s *ℤ t) *ℤ pos k
 mul-swap s t k =
     omega (
       arith,

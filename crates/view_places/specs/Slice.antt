@@ -11,7 +11,7 @@ from_front n (negsuc i) = pos n +ℤ negsuc i
 
 -- the nearest number from `least` to `most`
 abbrev pub clip : ℤ → ℤ → ℤ → ℤ
-clip least most z = int_max least (int_min most z)
+clip least most z = int_max least (int_min z most)
 
 -- whether a walk by a step stands before a stop
 abbrev pub is_before : ℤ → ℤ → ℤ → Bool

@@ -3,6 +3,7 @@
 
 mod aligned;
 mod axes;
+mod counting;
 mod parts;
 mod shape;
 mod slice;
@@ -14,6 +15,7 @@ mod strided;
 mod tests;
 mod view;
 mod view_calls;
+mod walk;
 
 pub use aligned::broadcast;
 pub use shape::{Array, Index, Shape};

@@ -1,6 +1,8 @@
 use crate::aligned::broadcast;
 use crate::axes::{element_count_of, reversed, row_major, widened};
+use crate::counting::slice_walk;
 use crate::shape::{Index, Shape};
+use crate::slice::Slice;
 use crate::spread::Spread;
 use crate::steps;
 use crate::strided::Strided;
@@ -13,6 +15,7 @@ impl View {
     ghost use Rattle.view_places.specs.Arrays.{element_count, entry, spread, is_small, broadcast_of, Inside, position_of, at_index, sliced, transposed};
     ghost use Rattle.view_places.specs.Shape.{IsShape, extents as extents_of_shape};
     ghost use Rattle.view_places.specs.Spread.{extents as extents_of_spread, places as places_of_spread};
+    ghost use Rattle.view_places.specs.Slice.{slice_indices};
     ghost use Rattle.view_places.specs.View.{extents, places, IsViewOf};
 
     /// All elements of a buffer that has as many as the shape, in order.
@@ -46,6 +49,19 @@ impl View {
         match steps::position_of(self.extent[usize::from(axis)], i) {
             Some(k) => Ok(self.at(axis, k)),
             None => Err(Fault::IndexError),
+        }
+    }
+
+    /// The entries whose number in a dimension below the rank is one that the slice counts out, in its order.
+    ///
+    /// `ValueError` where the step is 0.
+    pub fn slice(&self, axis: u8, s: Slice) -> Result<View, Fault>
+        requires { axis < self.now.rank }
+        ensures { MatchResult result (λ v. (picked : List ℕ) × (slice_indices (slice_index (extents self.now) axis) s ≡ Some picked) × IsViewOf self.now v (slice_set (extents self.now) axis (length picked)) (sliced 0 axis picked (extents self.now) (places self.now))) (λ fault. (fault ≡ Fault.ValueError) × (slice_indices (slice_index (extents self.now) axis) s ≡ None)) }
+    {
+        match slice_walk(self.extent[usize::from(axis)], &s) {
+            Some(walk) => Ok(self.picked(axis, walk)),
+            None => Err(Fault::ValueError),
         }
     }
 
