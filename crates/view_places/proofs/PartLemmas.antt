@@ -1,17 +1,16 @@
 -- Parts of a view: where their strides lead, and that they are views again.
-use Rattle.std.proofs.Common.{◌≡◌, ◌≢◌, ℕ, zero, suc, ◌+◌, ◌-◌, ◌*◌, ◌^◌, ◌<◌, ◌≤◌, List, [], ◌∷◌, ◌++◌, map, length, get_or, set, take, drop, replicate, reverse, insert, remove, refl, sym, ap, ap₂, subst, ◌∙◌, arith, Bool, true, false, T, leb, ltb, cond, Option, Some, None, ◌&&◌, ℤ, pos, negsuc, ◌+ℤ◌, ◌*ℤ◌, ◌≤ℤ◌, ◌<ℤ◌, IsTrue, unsigned_abs, leb→le, le→leb, mul_left_comm, mul-le-mul_left, mul-le-mul_right, le_of_mul-le-mul_right, le_antisymm, mul-one}
-use Rattle.std.specs.List.{list_all, range_with_len}
+use Rattle.std.proofs.Common.{◌≡◌, ℕ, zero, suc, ◌+◌, ◌-◌, ◌*◌, ◌^◌, ◌<◌, ◌≤◌, List, [], ◌∷◌, ◌++◌, map, length, get_or, set, take, drop, replicate, reverse, insert, remove, refl, sym, ap, subst, ◌∙◌, arith, Bool, true, false, T, leb, ltb, cond, Option, Some, None, ◌&&◌, ℤ, pos, negsuc, ◌+ℤ◌, ◌*ℤ◌, ◌≤ℤ◌, ◌<ℤ◌, IsTrue, unsigned_abs, leb→le, le→leb, mul_left_comm, mul-le-mul_left, mul-le-mul_right}
+use Rattle.std.specs.List.{list_all}
 use borrow.Author.Differences.{up, down, sum_is_lem, product_is}
 use borrow.Author.Tests.{leb-false, ltb-true}
 use Rattle.std.proofs.lemmas.Int.{ints}
-use Rattle.std.proofs.lemmas.List.{get_or-take, get_or-drop, get_or-map, get_or-set_same, take-append-le, drop-append-le, drop-set-lt, take_at, drop_at, length-take-le, length-drop, length-reverse, length-set, length-map, replicate_more, reverse-reverse, length-append, length-replicate}
-use Rattle.std.proofs.lemmas.List.FromFn.{get_or-range_with_len, length-range_with_len}
+use Rattle.std.proofs.lemmas.List.{get_or-take, get_or-drop, take-append-le, drop-append-le, take_at, drop_at, length-take-le, length-drop, length-reverse, replicate_more, reverse-reverse}
 use Rattle.view_places.specs.Alignment.{Fits}
-use Rattle.view_places.specs.Arrays.{element_count, indices, entry, is_small, Inside, clipped, renumbered, position_of}
+use Rattle.view_places.specs.Arrays.{element_count, indices, entry, is_small, Inside, clipped, position_of}
 use Rattle.view_places.specs.Strides.{reach, led_to, place_at, strided, IsArrayShape, LeadsWithin, LeadsApart}
 use Rattle.view_places.proofs.Fours.{reach-rank}
 use Rattle.view_places.proofs.Indices.{entry-map, map-indices_same}
-use Rattle.view_places.proofs.Reach.{length-inside, reach-append, reach-take, reach-insert, inside-insert, remove-insert, length-remove, reach-set, inside-set, inside-at, set-apart, reverse-cons, reach-reverse, inside-reverse, reach-missing, inside-clipped, reach-clipped, Still, count-append}
+use Rattle.view_places.proofs.Reach.{length-inside, reach-append, reach-take, reach-insert, inside-insert, remove-insert, length-remove, reverse-cons, reach-reverse, inside-reverse, reach-missing, inside-clipped, reach-clipped, Still, count-append}
 use Rattle.view_places.proofs.Shapes.{Limited, limited_in, limited_out, and-both, and-first, and-second}
 
 -- ---- indices that are changed to indices of the whole

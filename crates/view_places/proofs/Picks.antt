@@ -1,10 +1,10 @@
 -- What a slice picks, and that the entries that it picks are a view again.
-use Rattle.std.proofs.Common.{◌≡◌, ◌≢◌, ℕ, zero, suc, ◌+◌, ◌-◌, ◌*◌, ◌/◌, ◌^◌, ◌<◌, ◌≤◌, List, [], ◌∷◌, map, length, get_or, set, take, drop, replicate, refl, sym, ap, ap₂, subst, ◌∙◌, arith, Bool, true, false, T, ℤ, pos, negsuc, ◌+ℤ◌, ◌*ℤ◌, ◌≤ℤ◌, ◌<ℤ◌, ◌↔◌, unsigned_abs, IsTrue}
+use Rattle.std.proofs.Common.{◌≡◌, ◌≢◌, ℕ, zero, suc, ◌*◌, ◌/◌, ◌^◌, ◌<◌, ◌≤◌, List, map, length, get_or, set, take, drop, refl, sym, ap, ap₂, subst, ◌∙◌, arith, Bool, true, false, T, ℤ, pos, negsuc, ◌+ℤ◌, ◌*ℤ◌, ◌≤ℤ◌, ◌<ℤ◌, ◌↔◌, unsigned_abs, IsTrue}
 use Rattle.std.specs.List.{range_with_len}
 use Rattle.std.proofs.Math.Nat.{mul-div_cancel}
 use lib.Signed.{lt_z}
 use Rattle.std.proofs.lemmas.Int.{ints}
-use Rattle.std.proofs.lemmas.List.{get_or-map, get_or-set_same, drop-set-lt, length-take-le, length-set, length-map, get_or-take}
+use Rattle.std.proofs.lemmas.List.{get_or-map, get_or-set_same, drop-set-lt, length-take-le, length-set, length-map}
 use Rattle.std.proofs.lemmas.List.FromFn.{length-map-range_with_len, get_or-map-range_with_len}
 use Rattle.view_places.specs.Arrays.{element_count, indices, entry, is_small, Inside, renumbered, sliced}
 use Rattle.view_places.specs.Slice.{IsDistance, after_steps, walk, from_front}
@@ -13,7 +13,7 @@ use Rattle.view_places.specs.Walk.{picks, StaysWithin}
 use Rattle.view_places.specs.declared.walk.Walk.{Walk}
 use Rattle.view_places.proofs.PartLemmas.{within-changed, apart-changed, places-changed, small_in, small_limited, small_count, small-at, take-set-lt, limited-set, count-set, mul-add, mul-swap}
 use Rattle.view_places.proofs.Reach.{length-inside, reach-set, inside-set, inside-at, set-apart}
-use Rattle.view_places.proofs.WalkLemmas.{rising-walk, falling-walk, falling-inside, rising-inside}
+use Rattle.view_places.proofs.WalkLemmas.{rising-walk, falling-walk, falling-inside}
 
 -- ---- bounds and distances
 pub front-behind : (n : ℕ) (z : ℤ) → z <ℤ pos 0 → from_front n z ≡ z +ℤ pos n

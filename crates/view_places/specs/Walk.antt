@@ -1,5 +1,5 @@
 -- A walk: a number of steps from a start.
-use Rattle.std.specs.Prelude.{ℕ, ◌<◌, ◌≤◌, ◌≢◌, List, map, ℤ, pos, ◌≤ℤ◌, ◌<ℤ◌, unsigned_abs}
+use Rattle.std.specs.Prelude.{ℕ, ◌<◌, ◌≤◌, ◌≢◌, List, map, pos, ◌≤ℤ◌, ◌<ℤ◌, unsigned_abs}
 use Rattle.std.specs.List.{range_with_len}
 use Rattle.view_places.specs.Slice.{after_steps}
 use Rattle.view_places.specs.declared.walk.Walk.{Walk}

@@ -13,6 +13,7 @@ mod steps;
 mod strided;
 #[cfg(test)]
 mod tests;
+mod threads;
 mod view;
 mod view_calls;
 mod walk;
