@@ -1,10 +1,10 @@
 -- The broadcast of two shapes, dimension by dimension.
-use Rattle.std.proofs.Common.{◌≡◌, ◌≢◌, ℕ, zero, suc, ◌+◌, ◌-◌, ◌<◌, ◌≤◌, max, List, [], ◌∷◌, ◌++◌, map, filter, length, get_or, set, take, drop, replicate, reverse, refl, sym, ap, subst, ◌∙◌, arith, Bool, true, false, eqb, cond, not, ◌&&◌, inl, inr, ◌⊎◌, IsTrue, Ok, Err, Result, zero-add, ap₂, eq-eqb, ne_eqb, ⊎_elim, Option, Some, None}
+use Rattle.std.proofs.Common.{◌≡◌, ◌≢◌, ℕ, suc, ◌+◌, ◌-◌, ◌<◌, ◌≤◌, max, List, [], ◌∷◌, ◌++◌, map, filter, length, get_or, set, take, drop, replicate, reverse, refl, sym, ap, subst, ◌∙◌, arith, Bool, true, false, eqb, cond, not, ◌&&◌, inl, inr, ◌⊎◌, IsTrue, Ok, Err, Result, zero-add, ap₂, eq-eqb, ne_eqb, ⊎_elim, Option, Some, None}
 use Rattle.std.specs.List.{list_all, range_with_len}
 use borrow.Author.Tests.{eqb-true, eqb-false}
 use Rattle.std.proofs.lemmas.List.{get_or-map, get_or-reverse, length-reverse, length-map, length-take-le, length-drop, get_or-drop, take_more, map_push, set_at, get_or_default, get_or-take, get_or_past}
 use Rattle.std.proofs.lemmas.List.FromFn.{get_or-range_with_len, length-range_with_len}
-use Rattle.view_places.specs.Alignment.{Fits, FitsTo, pair_extent, all_fit}
+use Rattle.view_places.specs.Alignment.{Fits, FitsTo, pair_extent}
 use Rattle.view_places.specs.Arrays.{extent_back, proper_extents, all_same, greatest_rank, dimensions, joined_shape, broadcast_of, is_small}
 use Rattle.krn_base.specs.declared.fault.Fault.{Fault}
 use Rattle.krn_base.specs.declared.fault.Fault.TheVariants.{ValueError, SizeLimit}

@@ -1,9 +1,9 @@
 -- Lists of four entries, written out, and bounds on products.
-use Rattle.std.proofs.Common.{◌≡◌, ℕ, zero, suc, ◌+◌, ◌-◌, ◌*◌, ◌^◌, ◌<◌, ◌≤◌, List, [], ◌∷◌, length, get_or, take, drop, replicate, refl, sym, ap, ap₂, subst, ◌∙◌, arith, ℤ, pos, negsuc, ◌+ℤ◌, ◌*ℤ◌, unsigned_abs, mul-le-mul, mul-le-mul_right, lt_of_le_of_lt, SFits, w64}
+use Rattle.std.proofs.Common.{◌≡◌, ℕ, zero, suc, ◌*◌, ◌^◌, ◌<◌, ◌≤◌, List, [], ◌∷◌, length, get_or, take, refl, ap, ap₂, ◌∙◌, arith, ℤ, pos, ◌+ℤ◌, ◌*ℤ◌, unsigned_abs, mul-le-mul, lt_of_le_of_lt, SFits, w64}
 use Rattle.std.proofs.lemmas.Int.{ints, unsigned_abs-mul}
 use Rattle.view_places.specs.Arrays.{element_count}
 use Rattle.view_places.specs.Strides.{reach, led_to, weights}
-use Rattle.view_places.proofs.Reach.{zero-product, reach-nil}
+use Rattle.view_places.proofs.Reach.{reach-nil}
 
 pub mul-below : (a b M N L : ℕ) → a ≤ M → b ≤ N → M * N < L → a * b < L
 mul-below a b M N L h k m = lt_of_le_of_lt (mul-le-mul h k) m

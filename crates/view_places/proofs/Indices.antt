@@ -1,9 +1,10 @@
 -- The indices of a shape in row-major order: their number, their order, and lists that are made from them.
-use Rattle.std.proofs.Common.{◌≡◌, ℕ, zero, suc, ◌+◌, ◌*◌, ◌<◌, ◌≤◌, List, [], ◌∷◌, ◌++◌, map, length, get_or, refl, sym, ap, ap₂, subst, ◌∙◌, arith, add-zero, length-append, flat_map}
+use Rattle.std.proofs.Common.{◌≡◌, ℕ, zero, suc, ◌+◌, ◌*◌, ◌<◌, ◌≤◌, List, [], ◌∷◌, ◌++◌, map, length, get_or, ◌-◌, Bool, true, false, ltb, refl, sym, ap, ap₂, subst, ◌∙◌, arith, add-zero, length-append, flat_map}
 use Rattle.std.specs.List.{range_with_len}
 use Rattle.std.proofs.lemmas.List.{map-append, length-map, get_or_append_left, get_or-append_right, get_or-map}
 use Rattle.std.proofs.lemmas.Simd.{map-map}
-use Rattle.std.proofs.lemmas.List.FromFn.{length-range_with_len}
+use borrow.Author.Tests.{ltb-true, ltb-false}
+use Rattle.std.proofs.lemmas.List.FromFn.{get_or-range_with_len}
 use Rattle.std.proofs.Math.Nat.{mul-le-mul_right}
 use mathlib.Core.Path.{fun_ext}
 use Rattle.view_places.specs.Arrays.{element_count, indices, order_of, entry, Inside}
@@ -129,3 +130,36 @@ orders (n ∷ ns) =
 pub orders_from : (b : ℕ) (ns : List ℕ) → map (λ (index : List ℕ). b + order_of ns index) (indices ns) ≡ range_with_len b (element_count ns)
 orders_from b ns =
     sym (map-map (λ (x : ℕ). b + x) (order_of ns) (indices ns)) ∙ ap (map (λ (x : ℕ). b + x)) (orders ns) ∙ map-range b 0 (element_count ns) ∙ ap (λ (x : ℕ). range_with_len x (element_count ns)) (add-zero b)
+
+-- ---- the index that stands at an order
+inside-rows : (ns : List ℕ) (m a n i : ℕ) → a + n ≤ m → i < n * element_count ns → ((k : ℕ) → k < element_count ns → Inside ns (get_or (indices ns) k [])) →
+    Inside (m ∷ ns) (get_or (flat_map (row ns) (range_with_len a n)) i [])
+inside-rows ns m a zero i h below rest = absurd (omega arith)
+inside-rows ns m a (suc n) i h below rest =
+    by_test (ltb i (element_count ns)) refl (λ (past : element_count ns ≤ i). inside-rows ns m (a + 1) n (i - element_count ns) (omega arith) (omega arith) rest)
+  where
+    long : length (row ns a) ≡ element_count ns
+    long = length-map (indices ns) (λ index. a ∷ index) ∙ length-indices ns
+
+    by_test : (t : Bool) → ltb i (element_count ns) ≡ t → (element_count ns ≤ i → Inside (m ∷ ns) (get_or (flat_map (row ns) (range_with_len (a + 1) n)) (i - element_count ns) [])) →
+        Inside (m ∷ ns) (get_or (row ns a ++ flat_map (row ns) (range_with_len (a + 1) n)) i [])
+    by_test true e again =
+        let short : i < element_count ns = ltb-true i (element_count ns) e in
+        let here : get_or (row ns a ++ flat_map (row ns) (range_with_len (a + 1) n)) i [] ≡ a ∷ get_or (indices ns) i [] =
+        get_or_append_left (row ns a) (flat_map (row ns) (range_with_len (a + 1) n)) [] i (omega (arith, long)) ∙
+        get_or-map (λ (index : List ℕ). a ∷ index) (indices ns) i [] [] (omega (arith, length-indices ns)) in
+        subst (Inside (m ∷ ns)) (sym here) (omega arith, rest i short)
+    by_test false e again =
+        let past : element_count ns ≤ i = ltb-false i (element_count ns) e in
+        subst (Inside (m ∷ ns)) (sym (get_or-append_right (row ns a) (flat_map (row ns) (range_with_len (a + 1) n)) (element_count ns) i [] long past))
+        (again past)
+
+pub inside-at_order : (ns : List ℕ) (i : ℕ) → i < element_count ns → Inside ns (get_or (indices ns) i [])
+inside-at_order [] zero h = tt
+inside-at_order [] (suc i) h = absurd (omega arith)
+inside-at_order (n ∷ ns) i h = inside-rows ns n 0 n i (omega arith) h (inside-at_order ns)
+
+pub order-at : (ns : List ℕ) (i : ℕ) → i < element_count ns → order_of ns (get_or (indices ns) i []) ≡ i
+order-at ns i h =
+    sym (get_or-map (order_of ns) (indices ns) i [] 0 (omega (arith, length-indices ns))) ∙ ap (λ (xs : List ℕ). get_or xs i 0) (orders ns) ∙
+    get_or-range_with_len 0 (element_count ns) i 0 h ∙ sym (zero-plus i)

@@ -1,11 +1,10 @@
 -- The loop over the aligned dimensions of two shapes.
-use Rattle.std.proofs.Common.{◌≡◌, ℕ, zero, suc, ◌+◌, ◌-◌, ◌<◌, ◌≤◌, max, List, [], ◌∷◌, ◌++◌, map, filter, length, get_or, set, take, drop, replicate, refl, sym, ap, subst, ◌∙◌, ◌^◌, arith, Bool, true, false, eqb, cond, not, ◌&&◌, IsTrue, Ok, Err, Result, Option, Some, None, leb}
+use Rattle.std.proofs.Common.{◌≡◌, ℕ, zero, suc, ◌+◌, ◌-◌, ◌<◌, ◌≤◌, max, List, [], ◌∷◌, ◌++◌, map, filter, length, get_or, set, take, drop, replicate, refl, sym, ap, ◌∙◌, ◌^◌, arith, Bool, true, false, eqb, cond, not, ◌&&◌, Ok, Err, Option, Some, None, leb}
 use Rattle.std.specs.List.{list_all}
 use Rattle.std.proofs.lemmas.List.{take_all, take_at, drop_at, length-map, take-append-drop}
 use Rattle.std.proofs.lemmas.List.Folds.{list_all_at, list_all_more, list_all-append}
 use Rattle.view_places.specs.Alignment.{pair_extent, all_fit}
 use Rattle.view_places.specs.Arrays.{element_count, extent_back, proper_extents, all_same, greatest_rank, dimensions, joined_shape, broadcast_of, is_small}
-use Rattle.krn_base.specs.declared.fault.Fault.{Fault}
 use Rattle.krn_base.specs.declared.fault.Fault.TheVariants.{ValueError, SizeLimit}
 use Rattle.view_places.proofs.Shapes.{count-take}
 use Rattle.view_places.proofs.Broadcasts.{aligned, length-aligned, aligned-at, extent-more}

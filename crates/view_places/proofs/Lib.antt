@@ -1,10 +1,14 @@
 pub mod Broadcasts
+pub mod Contiguous
+pub mod Distinct
 pub mod Fours
 pub mod Indices
 pub mod Joins
 pub mod OneShape
+pub mod OneView
 pub mod Operations
 pub mod PartLemmas
+pub mod Picks
 pub mod Reach
 pub mod Settled
 pub mod Shapes

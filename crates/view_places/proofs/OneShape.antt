@@ -1,5 +1,5 @@
 -- A shape is fixed by its extents.
-use Rattle.std.proofs.Common.{◌≡◌, ◌≢◌, ℕ, ◌-◌, ◌≤◌, List, ◌++◌, length, take, drop, replicate, sym, ap, ap₂, ◌∙◌, arith, Ok, Result}
+use Rattle.std.proofs.Common.{◌≡◌, ℕ, ◌-◌, List, ◌++◌, length, take, drop, replicate, sym, ap, ap₂, ◌∙◌, arith, Ok, Result}
 use Rattle.krn_base.specs.declared.fault.Fault.{Fault}
 use Rattle.std.proofs.lemmas.List.{take-append-drop, length-take-le}
 use Rattle.view_places.specs.declared.shape.Shape.{Shape}

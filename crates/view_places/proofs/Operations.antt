@@ -1,7 +1,7 @@
 -- What each operation builds is a view again, of the places that its definition gives.
-use Rattle.std.proofs.Common.{◌≡◌, ℕ, ◌+◌, ◌-◌, ◌<◌, ◌≤◌, List, [], ◌∷◌, ◌++◌, map, length, get_or, take, drop, replicate, reverse, insert, remove, refl, sym, ap, subst, ◌∙◌, arith, ℤ, pos, ◌+ℤ◌, ◌*ℤ◌, IsTrue}
-use Rattle.view_places.specs.Alignment.{Fits, FitsTo}
-use Rattle.view_places.specs.Arrays.{indices, entry, is_small, at_index, transposed, spread, Inside, clipped}
+use Rattle.std.proofs.Common.{◌≡◌, ℕ, ◌-◌, ◌<◌, ◌≤◌, List, [], ◌∷◌, ◌++◌, length, get_or, take, drop, replicate, reverse, insert, remove, sym, ap, subst, ◌∙◌, arith, ℤ, pos, ◌+ℤ◌, ◌*ℤ◌}
+use Rattle.view_places.specs.Alignment.{FitsTo}
+use Rattle.view_places.specs.Arrays.{at_index, transposed, spread, Inside, clipped}
 use Rattle.view_places.specs.Strides.{led_to, strided, IsArrayShape, LeadsWithin, LeadsApart}
 use Rattle.std.proofs.lemmas.List.{length-take-le}
 use Rattle.view_places.proofs.PartLemmas.{within-changed, apart-changed, places-changed, at-extents, at-shape, at-same, at-inner, at-one, transposed-extents, transposed-shape, transposed-same, transposed-inner, reverse-one, still-take, spread-same, spread-inner}

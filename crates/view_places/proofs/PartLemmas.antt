@@ -1,17 +1,16 @@
 -- Parts of a view: where their strides lead, and that they are views again.
-use Rattle.std.proofs.Common.{◌≡◌, ◌≢◌, ℕ, zero, suc, ◌+◌, ◌-◌, ◌*◌, ◌^◌, ◌<◌, ◌≤◌, List, [], ◌∷◌, ◌++◌, map, length, get_or, set, take, drop, replicate, reverse, insert, remove, refl, sym, ap, ap₂, subst, ◌∙◌, arith, Bool, true, false, T, leb, ltb, cond, Option, Some, None, ◌&&◌, ℤ, pos, negsuc, ◌+ℤ◌, ◌*ℤ◌, ◌≤ℤ◌, ◌<ℤ◌, IsTrue, unsigned_abs, leb→le, le→leb, mul_left_comm, mul-le-mul_left, mul-le-mul_right, le_of_mul-le-mul_right, le_antisymm, mul-one}
-use Rattle.std.specs.List.{list_all, range_with_len}
+use Rattle.std.proofs.Common.{◌≡◌, ℕ, zero, suc, ◌+◌, ◌-◌, ◌*◌, ◌^◌, ◌<◌, ◌≤◌, List, [], ◌∷◌, ◌++◌, map, length, get_or, set, take, drop, replicate, reverse, insert, remove, refl, sym, ap, subst, ◌∙◌, arith, Bool, true, false, T, leb, ltb, cond, Option, Some, None, ◌&&◌, ℤ, pos, negsuc, ◌+ℤ◌, ◌*ℤ◌, ◌≤ℤ◌, ◌<ℤ◌, IsTrue, unsigned_abs, leb→le, le→leb, mul_left_comm, mul-le-mul_left, mul-le-mul_right}
+use Rattle.std.specs.List.{list_all}
 use borrow.Author.Differences.{up, down, sum_is_lem, product_is}
 use borrow.Author.Tests.{leb-false, ltb-true}
 use Rattle.std.proofs.lemmas.Int.{ints}
-use Rattle.std.proofs.lemmas.List.{get_or-take, get_or-drop, get_or-map, get_or-set_same, take-append-le, drop-append-le, drop-set-lt, take_at, drop_at, length-take-le, length-drop, length-reverse, length-set, length-map, replicate_more, reverse-reverse, length-append, length-replicate}
-use Rattle.std.proofs.lemmas.List.FromFn.{get_or-range_with_len, length-range_with_len}
+use Rattle.std.proofs.lemmas.List.{get_or-take, get_or-drop, take-append-le, drop-append-le, take_at, drop_at, length-take-le, length-drop, length-reverse, replicate_more, reverse-reverse}
 use Rattle.view_places.specs.Alignment.{Fits}
-use Rattle.view_places.specs.Arrays.{element_count, indices, entry, is_small, Inside, clipped, renumbered, position_of}
+use Rattle.view_places.specs.Arrays.{element_count, indices, entry, is_small, Inside, clipped, position_of}
 use Rattle.view_places.specs.Strides.{reach, led_to, place_at, strided, IsArrayShape, LeadsWithin, LeadsApart}
 use Rattle.view_places.proofs.Fours.{reach-rank}
 use Rattle.view_places.proofs.Indices.{entry-map, map-indices_same}
-use Rattle.view_places.proofs.Reach.{length-inside, reach-append, reach-take, reach-insert, inside-insert, remove-insert, length-remove, reach-set, inside-set, inside-at, set-apart, reverse-cons, reach-reverse, inside-reverse, reach-missing, inside-clipped, reach-clipped, Still, count-append}
+use Rattle.view_places.proofs.Reach.{length-inside, reach-append, reach-take, reach-insert, inside-insert, remove-insert, length-remove, reverse-cons, reach-reverse, inside-reverse, reach-missing, inside-clipped, reach-clipped, Still, count-append}
 use Rattle.view_places.proofs.Shapes.{Limited, limited_in, limited_out, and-both, and-first, and-second}
 
 -- ---- indices that are changed to indices of the whole
@@ -185,26 +184,26 @@ pub reverse-one : (a b : List ℕ) → reverse a ≡ reverse b → a ≡ b
 reverse-one a b e = sym (reverse-reverse a) ∙ ap reverse e ∙ reverse-reverse b
 
 -- ---- another extent of one dimension
-take-set-lt : (rank axis m : ℕ) (xs : List ℕ) → axis < rank → take rank (set xs axis m) ≡ set (take rank xs) axis m
+pub take-set-lt : (rank axis m : ℕ) (xs : List ℕ) → axis < rank → take rank (set xs axis m) ≡ set (take rank xs) axis m
 take-set-lt zero axis m xs h = absurd (omega arith)
 take-set-lt (suc rank) axis m [] h = refl
 take-set-lt (suc rank) zero m (x ∷ xs) h = refl
 take-set-lt (suc rank) (suc axis) m (x ∷ xs) h = ap (λ (ys : List ℕ). x ∷ ys) (take-set-lt rank axis m xs (omega arith))
 
-limited-set : (ns : List ℕ) (axis m : ℕ) → m ≤ 2 ^ 22 → Limited ns → Limited (set ns axis m)
+pub limited-set : (ns : List ℕ) (axis m : ℕ) → m ≤ 2 ^ 22 → Limited ns → Limited (set ns axis m)
 limited-set [] axis m h k = tt
 limited-set (n ∷ ns) zero m h k = (h, k.1)
 limited-set (n ∷ ns) (suc axis) m h k = (k.0, limited-set ns axis m h k.1)
 
-count-set : (ns : List ℕ) (axis m : ℕ) → m ≤ get_or ns axis 0 → element_count (set ns axis m) ≤ element_count ns
+pub count-set : (ns : List ℕ) (axis m : ℕ) → m ≤ get_or ns axis 0 → element_count (set ns axis m) ≤ element_count ns
 count-set [] axis m h = omega arith
 count-set (n ∷ ns) zero m h = mul-le-mul_right {m = m} {n = n} (element_count ns) h
 count-set (n ∷ ns) (suc axis) m h = mul-le-mul_left n (count-set ns axis m h)
 
-mul-add : (s a b : ℤ) → s *ℤ (a +ℤ b) ≡ (s *ℤ a) +ℤ (s *ℤ b)
+pub mul-add : (s a b : ℤ) → s *ℤ (a +ℤ b) ≡ (s *ℤ a) +ℤ (s *ℤ b)
 mul-add s a b = omega (arith, ints, ap (λ (n : ℕ). up s * n) (sum_is_lem a b), ap (λ (n : ℕ). down s * n) (sum_is_lem a b))
 
-mul-swap : (s t : ℤ) (k : ℕ) → s *ℤ (pos k *ℤ t) ≡ (s *ℤ t) *ℤ pos k
+pub mul-swap : (s t : ℤ) (k : ℕ) → s *ℤ (pos k *ℤ t) ≡ (s *ℤ t) *ℤ pos k
 mul-swap s t k =
     omega (
       arith,

@@ -1,12 +1,12 @@
 -- How strides lead from the indices of a shape, by the shape's dimensions.
-use Rattle.std.proofs.Common.{◌≡◌, ◌≢◌, ℕ, zero, suc, ◌+◌, ◌-◌, ◌*◌, ◌<◌, ◌≤◌, List, [], ◌∷◌, ◌++◌, map, length, get_or, set, take, drop, replicate, reverse, insert, remove, refl, sym, ap, subst, ◌∙◌, arith, length-append, eqb, cond, ℤ, pos, negsuc, ◌+ℤ◌, ◌*ℤ◌, ◌≤ℤ◌, ◌<ℤ◌, if◌then◌else◌, unsigned_abs, inl, inr, ◌⊎◌, Bool, true, false, eqb-true, mul_assoc, mul_comm, mul-one}
+use Rattle.std.proofs.Common.{◌≡◌, ℕ, zero, suc, ◌+◌, ◌*◌, ◌<◌, ◌≤◌, List, [], ◌∷◌, ◌++◌, length, get_or, set, take, drop, replicate, reverse, insert, remove, refl, sym, ap, subst, ◌∙◌, arith, eqb, cond, ℤ, pos, ◌+ℤ◌, ◌*ℤ◌, inl, inr, ◌⊎◌, Bool, true, false, eqb-true, mul_assoc, mul_comm, mul-one}
 use borrow.Author.Tests.{eqb-false}
 use Rattle.std.proofs.lemmas.Int.{ints}
 use Rattle.std.proofs.lemmas.Grind.{reverse_onto}
 use Rattle.std.proofs.lemmas.List.{reverse-reverse, length-reverse, set-set, set-get_or}
 use Rattle.view_places.specs.Alignment.{Fits}
 use Rattle.view_places.specs.Arrays.{element_count, order_of, Inside, clipped}
-use Rattle.view_places.specs.Strides.{reach, led_to, LeadsWithin, weights}
+use Rattle.view_places.specs.Strides.{reach, weights}
 
 pub zero-product : (s : ℤ) → s *ℤ pos 0 ≡ pos 0
 zero-product s = omega (arith, ints)

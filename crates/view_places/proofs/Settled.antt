@@ -1,12 +1,12 @@
 -- The one offset and strides of a shape's places: that they exist in a view's numbers, and that they are the only ones.
-use Rattle.std.proofs.Common.{◌≡◌, ◌≢◌, ℕ, zero, suc, ◌+◌, ◌-◌, ◌*◌, ◌^◌, ◌<◌, ◌≤◌, List, [], ◌∷◌, ◌++◌, map, length, get_or, take, drop, replicate, refl, sym, ap, ap₂, subst, ◌∙◌, arith, eqb, cond, Bool, true, false, eqb-true, ℤ, pos, negsuc, ◌+ℤ◌, ◌*ℤ◌, ◌≤ℤ◌, ◌<ℤ◌, if◌then◌else◌, unsigned_abs}
+use Rattle.std.proofs.Common.{◌≡◌, ℕ, zero, suc, ◌*◌, ◌<◌, ◌≤◌, List, [], ◌∷◌, length, get_or, take, drop, replicate, refl, sym, ap, ap₂, subst, ◌∙◌, arith, eqb, cond, Bool, true, false, eqb-true, ℤ, pos, negsuc, ◌*ℤ◌, ◌≤ℤ◌, ◌<ℤ◌, unsigned_abs}
 use borrow.Author.Tests.{eqb-false}
 use Rattle.std.proofs.lemmas.Int.{ints}
 use Rattle.std.proofs.lemmas.List.{ext_get_or, get_or-replicate, length-replicate}
-use Rattle.view_places.specs.Arrays.{element_count, indices, entry, Inside}
+use Rattle.view_places.specs.Arrays.{element_count, entry, Inside}
 use Rattle.view_places.specs.Strides.{reach, led_to, place_at, strided, settled_strides, LeadsWithin}
 use Rattle.view_places.proofs.Indices.{entry-map, map-indices_same}
-use Rattle.view_places.proofs.Reach.{origin, origin-inside, reach-origin, reach-nil, zero-product, Still}
+use Rattle.view_places.proofs.Reach.{origin, origin-inside, reach-origin, reach-nil, Still}
 
 some-here : (n c : ℕ) → 0 < n * c → 0 < n
 some-here zero c h = absurd (omega arith)

@@ -1,14 +1,14 @@
 -- Shapes held in four entries, of which those past the rank are 1: their extents, their number of elements and their limits.
-use Rattle.std.proofs.Common.{◌≡◌, ◌≢◌, ℕ, zero, suc, ◌+◌, ◌-◌, ◌*◌, ◌^◌, ◌<◌, ◌≤◌, List, [], ◌∷◌, ◌++◌, map, length, get_or, set, take, drop, replicate, reverse, remove, refl, sym, ap, ap₂, subst, ◌∙◌, arith, eqb, cond, Bool, true, false, T, leb, ◌&&◌, ℤ, pos, negsuc, ◌+ℤ◌, ◌*ℤ◌, ◌≤ℤ◌, ◌<ℤ◌, IsTrue, unsigned_abs, leb→le, le→leb, mul-one, mul-le-mul_left, mul-le-mul_right, mul_comm, add-zero, inl, inr, ◌⊎◌}
+use Rattle.std.proofs.Common.{◌≡◌, ◌≢◌, ℕ, zero, suc, ◌+◌, ◌-◌, ◌*◌, ◌^◌, ◌<◌, ◌≤◌, List, [], ◌∷◌, ◌++◌, length, get_or, take, drop, replicate, refl, sym, ap, ap₂, subst, ◌∙◌, arith, eqb, cond, Bool, true, false, T, leb, ◌&&◌, ℤ, pos, ◌+ℤ◌, ◌≤ℤ◌, ◌<ℤ◌, unsigned_abs, leb→le, le→leb, mul-one}
 use borrow.Author.Tests.{leb-false}
 use Rattle.std.specs.List.{list_all, range_with_len}
 use Rattle.std.proofs.lemmas.Int.{ints}
-use Rattle.std.proofs.lemmas.List.{get_or-take, get_or-drop, get_or-replicate, take-append-drop, length-take-le, length-replicate, length-reverse, take_at, drop_at, replicate_more, drop-drop}
-use Rattle.view_places.specs.Arrays.{element_count, is_small, order_of, Inside}
+use Rattle.std.proofs.lemmas.List.{get_or-take, get_or-drop, get_or-replicate, take-append-drop, length-take-le}
+use Rattle.view_places.specs.Arrays.{element_count, order_of, Inside}
 use Rattle.view_places.specs.Strides.{reach, led_to, IsArrayShape, IsSettled, LeadsWithin, LeadsApart, settled_strides, weights, place_at, strided}
 use Rattle.view_places.proofs.Indices.{order-below, order-apart, map-indices_same, orders}
-use Rattle.view_places.proofs.Reach.{count-append, length-inside, reach-weights, Still, reverse-cons}
-use Rattle.view_places.proofs.Settled.{some-behind, offset-within, stride-within, reach-settled, still-settled}
+use Rattle.view_places.proofs.Reach.{count-append, length-inside, reach-weights}
+use Rattle.view_places.proofs.Settled.{some-behind, stride-within, reach-settled, still-settled}
 
 pub nothing-inside : (ns index : List ℕ) → element_count ns ≡ 0 → Inside ns index → ⊥
 nothing-inside ns index e p = omega (arith, order-below ns index p)

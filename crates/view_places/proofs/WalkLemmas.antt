@@ -1,8 +1,7 @@
 -- What a slice counts out: the numbers of its walk that stand before the stop are the first ones.
-use Rattle.std.proofs.Common.{◌≡◌, ◌≢◌, ℕ, zero, suc, ◌+◌, ◌-◌, ◌*◌, ◌<◌, ◌≤◌, min, List, [], ◌∷◌, map, filter, refl, sym, ap, subst, ◌∙◌, arith, Bool, true, false, T, ltb, cond, ℤ, pos, negsuc, ◌+ℤ◌, ◌-ℤ◌, ◌*ℤ◌, ◌≤ℤ◌, ◌<ℤ◌, ◌↔◌, Some, unsigned_abs, ltb→lt, lt→ltb, mul-zero}
+use Rattle.std.proofs.Common.{◌≡◌, ℕ, zero, suc, ◌+◌, ◌-◌, ◌*◌, ◌<◌, ◌≤◌, min, ◌∷◌, map, filter, refl, sym, ap, subst, ◌∙◌, arith, Bool, true, false, T, ltb, cond, ℤ, pos, negsuc, ◌+ℤ◌, ◌-ℤ◌, ◌*ℤ◌, ◌≤ℤ◌, ◌<ℤ◌, ◌↔◌, Some, unsigned_abs, ltb→lt, lt→ltb}
 use Rattle.std.specs.List.{range_with_len}
 use borrow.Author.Tests.{ltb-true, ltb-false}
-use borrow.Author.Differences.{lt_T, lt_in}
 use lib.Signed.{lt_z}
 use Rattle.std.proofs.lemmas.Int.{ints}
 use Rattle.view_places.specs.Slice.{IsDistance, after_steps, is_before, walk, bound, picks_by}

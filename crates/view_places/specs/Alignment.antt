@@ -1,7 +1,7 @@
 -- Shapes that fit to others by broadcasting.
 use Rattle.std.specs.Prelude.{◌≡◌, ℕ, ◌-◌, ◌≤◌, List, [], ◌∷◌, length, drop, ◌⊎◌, Bool, not, ◌==◌, filter, if◌then◌else◌, Option, Some, None, slice_index_or}
 use Rattle.std.specs.List.{list_all}
-use Rattle.view_places.specs.Arrays.{all_same, proper_extents, dimensions}
+use Rattle.view_places.specs.Arrays.{all_same, proper_extents}
 
 -- each extent is 1 or the other shape's, one by one from the first
 abbrev pub Fits : List ℕ → List ℕ → Type 0

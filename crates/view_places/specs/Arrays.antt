@@ -1,7 +1,7 @@
 -- Arrays as lists of entries in row-major order, over shapes that are lists of extents from the first dimension.
 -- The rules are those of the NumPy reference (row-major order, broadcasting); the limit of 2^22 is this project's own.
 -- There are no strides and no offsets here.
-use Rattle.std.specs.Prelude.{◌≡◌, ℕ, ◌+◌, ◌-◌, ◌*◌, ◌^◌, ◌==◌, Bool, true, false, if◌then◌else◌, not, ◌&&◌, List, [], ◌∷◌, ◌++◌, map, length, take, drop, replicate, reverse, fold, max, filter, slice_index, slice_index_or, slice_set, nat_lt, nat_le, ◌<◌, insert, remove, ℤ, pos, negsuc, Option, Some, None, Result, Ok, Err}
+use Rattle.std.specs.Prelude.{ℕ, ◌+◌, ◌-◌, ◌*◌, ◌^◌, ◌==◌, Bool, true, if◌then◌else◌, not, ◌&&◌, List, [], ◌∷◌, map, length, drop, reverse, max, filter, slice_index, slice_index_or, slice_set, nat_lt, nat_le, ◌<◌, insert, remove, ℤ, pos, negsuc, Option, Some, None, Result, Ok, Err}
 use Rattle.std.specs.List.{flat_map, list_all, range_with_len}
 use Rattle.krn_base.specs.declared.fault.Fault.{Fault}
 use Rattle.krn_base.specs.declared.fault.Fault.TheVariants.{ValueError, SizeLimit}

@@ -5,3 +5,4 @@ pub mod Slice
 pub mod Spread
 pub mod Strides
 pub mod View
+pub mod Walk

@@ -1,5 +1,5 @@
 -- What a slice picks of a dimension, by the rules of Python's slice objects (`slice.indices`).
-use Rattle.std.specs.Prelude.{ℕ, zero, suc, ◌+◌, Bool, List, map, filter, if◌then◌else◌, ℤ, pos, negsuc, ◌+ℤ◌, ◌-ℤ◌, ◌*ℤ◌, ◌≤ℤ◌, ◌<ℤ◌, ◌≡◌, int_lt, unsigned_abs, Option, Some, None, unwrap_or}
+use Rattle.std.specs.Prelude.{ℕ, zero, suc, Bool, List, map, filter, if◌then◌else◌, ℤ, pos, negsuc, ◌+ℤ◌, ◌-ℤ◌, ◌*ℤ◌, ◌≤ℤ◌, ◌<ℤ◌, ◌≡◌, int_lt, unsigned_abs, Option, Some, None, unwrap_or}
 use Rattle.std.specs.List.{range_with_len}
 use Rattle.std.specs.Int.{int_max, int_min}
 use Rattle.view_places.specs.declared.slice.Slice.{Slice}
@@ -11,7 +11,7 @@ from_front n (negsuc i) = pos n +ℤ negsuc i
 
 -- the nearest number from `least` to `most`
 abbrev pub clip : ℤ → ℤ → ℤ → ℤ
-clip least most z = int_max least (int_min most z)
+clip least most z = int_max least (int_min z most)
 
 -- whether a walk by a step stands before a stop
 abbrev pub is_before : ℤ → ℤ → ℤ → Bool

@@ -1,5 +1,5 @@
 -- A view as a shape and the list of its places.
-use Rattle.std.specs.Prelude.{◌≡◌, ℕ, ℤ, List, take, length}
+use Rattle.std.specs.Prelude.{◌≡◌, ℕ, List, take, length}
 use Rattle.std.specs.List.{range_with_len}
 use Rattle.view_places.specs.Strides.{strided}
 use Rattle.view_places.specs.declared.view.View.{View}

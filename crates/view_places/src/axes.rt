@@ -1,5 +1,5 @@
 //! Lists of four entries, one for each dimension that an array may have.
-ghost use Rattle.std.specs.Prelude.{◌≡◌, ◌<◌, ◌≤◌, ◌*◌, ◌^◌, ◌++◌, ◌∷◌, [], take, drop, replicate, remove, reverse, pos, nat_le};
+ghost use Rattle.std.specs.Prelude.{◌≡◌, ◌↔◌, IsTrue, ◌<◌, ◌≤◌, ◌*◌, ◌^◌, ◌++◌, ◌∷◌, [], take, drop, replicate, remove, reverse, slice_set, pos, nat_le};
 ghost use Rattle.std.specs.List.{list_all};
 ghost use Rattle.view_places.specs.Arrays.{element_count, is_small as is_small_shape};
 ghost use Rattle.view_places.specs.Strides.{weights};
@@ -15,6 +15,16 @@ pub fn without<T: Copy>(xs: &[T; 4], axis: u8, last: T) -> [T; 4]
         2 => [xs[0], xs[1], xs[3], last],
         _ => [xs[0], xs[1], xs[2], last],
     }
+}
+
+/// The entries with another one for a dimension.
+pub fn replaced<T: Copy>(xs: &[T; 4], axis: u8, x: T) -> [T; 4]
+    requires { axis < 4 }
+    ensures { result ≡ slice_set xs.now axis x }
+{
+    let mut changed = *xs;
+    changed[usize::from(axis)] = x;
+    changed
 }
 
 /// The entries with the first `rank` of them in reverse order.
@@ -55,6 +65,13 @@ pub fn widened(stride: &[i64; 4]) -> [i128; 4]
         i128::from(third),
         i128::from(fourth),
     ]
+}
+
+/// Whether strides are the same.
+pub fn are_same(first: &[i64; 4], second: &[i64; 4]) -> bool
+    ensures { IsTrue result ↔ (first.now ≡ second.now) }
+{
+    *first == *second
 }
 
 /// The product of three extents.

@@ -3,6 +3,7 @@
 
 mod aligned;
 mod axes;
+mod counting;
 mod parts;
 mod shape;
 mod slice;
@@ -12,8 +13,10 @@ mod steps;
 mod strided;
 #[cfg(test)]
 mod tests;
+mod threads;
 mod view;
 mod view_calls;
+mod walk;
 
 pub use aligned::broadcast;
 pub use shape::{Array, Index, Shape};

@@ -1,18 +1,20 @@
 //! Parts of a view and its spreads, where they exist.
-use crate::axes::{shifted, widened, without};
+use crate::axes::{replaced, shifted, widened, without};
 use crate::shape::Shape;
 use crate::spread::Spread;
 use crate::steps::{led_by, plus};
 use crate::strided::Strided;
 use crate::view::View;
+use crate::walk::Walk;
 
 impl View {
-    ghost use Rattle.std.specs.Prelude.{◌≡◌, ◌<◌, ◌≤◌, IsTrue, slice_index, slice_set, remove};
+    ghost use Rattle.std.specs.Prelude.{◌≡◌, ◌<◌, ◌≤◌, IsTrue, length, slice_index, slice_set, remove};
     ghost use Rattle.view_places.specs.Arrays.{at_index, sliced, spread, is_small};
     ghost use Rattle.view_places.specs.Alignment.{FitsTo};
     ghost use Rattle.view_places.specs.Shape.{IsShape, extents as extents_of_shape};
     ghost use Rattle.view_places.specs.Spread.{extents as extents_of_spread, places as places_of_spread};
     ghost use Rattle.view_places.specs.View.{extents, places, IsViewOf};
+    ghost use Rattle.view_places.specs.Walk.{picks, StaysWithin};
 
     /// The entries with the number k in a dimension.
     pub fn at(&self, axis: u8, k: u32) -> View
@@ -27,6 +29,28 @@ impl View {
         let stride = widened(&stride);
         let raw = Strided {
             rank: self.rank - 1,
+            extent,
+            offset,
+            stride,
+        };
+        raw.view(self.buffer, self.length)
+    }
+
+    /// The entries whose number in a dimension a walk meets.
+    pub fn picked(&self, axis: u8, walk: Walk) -> View
+        requires axis { axis < self.now.rank }
+        requires within { StaysWithin (slice_index (extents self.now) axis) walk }
+        ensures { IsViewOf self.now result (slice_set (extents self.now) axis (length (picks walk))) (sliced 0 axis (picks walk) (extents self.now) (places self.now)) }
+    {
+        let along = self.stride[usize::from(axis)];
+        let start = led_by(along, walk.start);
+        let step = led_by(along, walk.step);
+        let offset = plus(i128::from(self.offset), start);
+        let extent = replaced(&self.extent, axis, walk.count);
+        let wide = widened(&self.stride);
+        let stride = replaced(&wide, axis, step);
+        let raw = Strided {
+            rank: self.rank,
             extent,
             offset,
             stride,

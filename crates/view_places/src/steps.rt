@@ -15,7 +15,7 @@ pub fn led_by(stride: i64, steps: i64) -> i128
 /// A sum of two distances.
 pub fn plus(a: i128, b: i128) -> i128
     requires first { unsigned_abs a ≤ 2 ^ 100 }
-    requires second { unsigned_abs b ≤ 2 ^ 100 }
+    requires second { unsigned_abs b ≤ 2 ^ 126 }
     ensures { result ≡ a +ℤ b }
 {
     a + b

@@ -1,4 +1,4 @@
-use crate::{Shape, View};
+use crate::{Shape, Slice, View};
 use krn_base::Fault;
 use std::test::Fail;
 
@@ -17,8 +17,17 @@ fn worked_views(rt: HostRuntime) -> Result<(), Fail> {
     assert_eq!(rt; turned.extent, [3, 1, 2, 1]);
     assert_eq!(rt; turned.stride, [1, 0, 3, 0]);
     assert_eq!(rt; whole.rank, 3);
-    let last = whole.index(0, -1).map(|v| (v.rank, v.offset, v.extent));
-    assert_eq!(rt; last, Ok((2, 3, [1, 3, 1, 1])));
+    assert_eq!(rt; whole.is_contiguous(), true);
+    assert_eq!(rt; turned.is_contiguous(), false);
+    let backwards = Slice {
+        start: None,
+        stop: None,
+        step: Some(-2),
+    };
+    let part = whole.slice(2, backwards).map(|v| (v.offset, v.stride[2]));
+    assert_eq!(rt; part, Ok((2, -2)));
+    let last = whole.index(0, -1).map(|v| (v.rank, v.offset));
+    assert_eq!(rt; last, Ok((2, 3)));
     let outside = whole.index(2, 3).map(|v| v.offset);
     assert_eq!(rt; outside, Err(Fault::IndexError));
     let empty = View::whole(
@@ -29,5 +38,102 @@ fn worked_views(rt: HostRuntime) -> Result<(), Fail> {
         },
     );
     assert_eq!(rt; empty.stride, [0, 0, 0, 0]);
+    Ok(())
+}
+
+// A row: the number of entries, start, stop and step of a slice, and of what CPython's `slice.indices` gives: how many
+// numbers, the first one (0 where there is none), and their distance (0 where there is one at most).
+#[test]
+fn slices_as_python_counts(rt: HostRuntime) -> Result<(), Fail> {
+    let rows = [
+        (5, None, None, None, Ok((5, 0, 1))),
+        (5, None, None, Some(-1), Ok((5, 4, -1))),
+        (5, Some(1), Some(4), Some(2), Ok((2, 1, 2))),
+        (5, Some(4), Some(1), Some(-2), Ok((2, 4, -2))),
+        (5, Some(-1), None, None, Ok((1, 4, 0))),
+        (5, None, Some(-1), None, Ok((4, 0, 1))),
+        (5, Some(-100), Some(100), None, Ok((5, 0, 1))),
+        (5, Some(100), Some(-100), Some(-1), Ok((5, 4, -1))),
+        (5, Some(3), Some(3), None, Ok((0, 0, 0))),
+        (5, Some(3), Some(2), None, Ok((0, 0, 0))),
+        (5, None, None, Some(2), Ok((3, 0, 2))),
+        (5, None, None, Some(3), Ok((2, 0, 3))),
+        (5, None, None, Some(-3), Ok((2, 4, -3))),
+        (5, None, None, Some(5), Ok((1, 0, 0))),
+        (5, None, None, Some(-5), Ok((1, 4, 0))),
+        (5, None, None, Some(4), Ok((2, 0, 4))),
+        (0, None, None, None, Ok((0, 0, 0))),
+        (0, None, None, Some(-1), Ok((0, 0, 0))),
+        (0, Some(0), Some(0), Some(1), Ok((0, 0, 0))),
+        (0, Some(-1), Some(1), Some(-1), Ok((0, 0, 0))),
+        (1, None, None, Some(-1), Ok((1, 0, 0))),
+        (1, Some(0), None, Some(i64::MAX), Ok((1, 0, 0))),
+        (1, Some(-1), None, Some(i64::MIN), Ok((1, 0, 0))),
+        (
+            7,
+            Some(i64::MIN),
+            Some(i64::MAX),
+            Some(i64::MAX),
+            Ok((1, 0, 0)),
+        ),
+        (
+            7,
+            Some(i64::MAX),
+            Some(i64::MIN),
+            Some(i64::MIN),
+            Ok((1, 6, 0)),
+        ),
+        (7, Some(i64::MIN), Some(i64::MAX), Some(1), Ok((7, 0, 1))),
+        (7, Some(i64::MAX), Some(i64::MIN), Some(-1), Ok((7, 6, -1))),
+        (
+            7,
+            Some(i64::MAX),
+            Some(i64::MAX),
+            Some(i64::MAX),
+            Ok((0, 0, 0)),
+        ),
+        (
+            7,
+            Some(i64::MIN),
+            Some(i64::MIN),
+            Some(i64::MIN),
+            Ok((0, 0, 0)),
+        ),
+        (7, Some(0), Some(i64::MAX), Some(i64::MAX), Ok((1, 0, 0))),
+        (7, Some(6), Some(i64::MIN), Some(i64::MIN), Ok((1, 6, 0))),
+        (7, None, None, Some(i64::MIN), Ok((1, 6, 0))),
+        (7, None, None, Some(i64::MAX), Ok((1, 0, 0))),
+        (7, Some(i64::MIN), None, Some(-1), Ok((0, 0, 0))),
+        (7, None, Some(i64::MIN), Some(-2), Ok((4, 6, -2))),
+        (7, Some(-7), Some(-1), Some(3), Ok((2, 0, 3))),
+        (7, Some(-8), Some(-1), Some(3), Ok((2, 0, 3))),
+        (7, Some(6), Some(-8), Some(-6), Ok((2, 6, -6))),
+        (7, Some(6), Some(-7), Some(-6), Ok((1, 6, 0))),
+        (7, Some(5), Some(0), Some(-2), Ok((3, 5, -2))),
+        (
+            4194304,
+            None,
+            None,
+            Some(-4194303),
+            Ok((2, 4194303, -4194303)),
+        ),
+        (4194304, None, None, Some(4194303), Ok((2, 0, 4194303))),
+        (4194304, Some(1), None, Some(4194303), Ok((1, 1, 0))),
+        (5, Some(1), None, Some(0), Err(Fault::ValueError)),
+    ];
+    for (n, start, stop, step, wanted) in rows {
+        assert!(rt; n <= 1 << 22);
+        let whole = View::whole(
+            0,
+            &Shape {
+                rank: 1,
+                extent: [n, 1, 1, 1],
+            },
+        );
+        assert_eq!(rt; whole.rank, 1);
+        let part = whole.slice(0, Slice { start, stop, step });
+        let seen = part.map(|v| (v.extent[0], v.offset, v.stride[0]));
+        assert_eq!(rt; seen, wanted, "{n} {start:?} {stop:?} {step:?}");
+    }
     Ok(())
 }

@@ -1,6 +1,8 @@
 use crate::aligned::broadcast;
-use crate::axes::{element_count_of, reversed, row_major, widened};
+use crate::axes::{are_same, element_count_of, reversed, row_major, widened};
+use crate::counting::slice_walk;
 use crate::shape::{Index, Shape};
+use crate::slice::Slice;
 use crate::spread::Spread;
 use crate::steps;
 use crate::strided::Strided;
@@ -13,7 +15,8 @@ impl View {
     ghost use Rattle.view_places.specs.Arrays.{element_count, entry, spread, is_small, broadcast_of, Inside, position_of, at_index, sliced, transposed};
     ghost use Rattle.view_places.specs.Shape.{IsShape, extents as extents_of_shape};
     ghost use Rattle.view_places.specs.Spread.{extents as extents_of_spread, places as places_of_spread};
-    ghost use Rattle.view_places.specs.View.{extents, places, IsViewOf};
+    ghost use Rattle.view_places.specs.Slice.{slice_indices};
+    ghost use Rattle.view_places.specs.View.{extents, places, IsViewOf, IsConsecutive};
 
     /// All elements of a buffer that has as many as the shape, in order.
     pub fn whole(buffer: u32, shape: &Shape) -> View
@@ -49,6 +52,19 @@ impl View {
         }
     }
 
+    /// The entries whose number in a dimension below the rank is one that the slice counts out, in its order.
+    ///
+    /// `ValueError` where the step is 0.
+    pub fn slice(&self, axis: u8, s: Slice) -> Result<View, Fault>
+        requires { axis < self.now.rank }
+        ensures { MatchResult result (λ v. (picked : List ℕ) × (slice_indices (slice_index (extents self.now) axis) s ≡ Some picked) × IsViewOf self.now v (slice_set (extents self.now) axis (length picked)) (sliced 0 axis picked (extents self.now) (places self.now))) (λ fault. (fault ≡ Fault.ValueError) × (slice_indices (slice_index (extents self.now) axis) s ≡ None)) }
+    {
+        match slice_walk(self.extent[usize::from(axis)], &s) {
+            Some(walk) => Ok(self.picked(axis, walk)),
+            None => Err(Fault::ValueError),
+        }
+    }
+
     /// The entries by reversed indices.
     pub fn transpose(&self) -> View
         ensures { IsViewOf self.now result (reverse (extents self.now)) (transposed 0 (extents self.now) (places self.now)) }
@@ -64,6 +80,30 @@ impl View {
         };
         raw.view(self.buffer, self.length)
     }
+
+    /// Whether the places are consecutive and rising.
+    pub fn is_contiguous(&self) -> bool
+        ensures { IsTrue result ↔ IsConsecutive (places self.now) }
+    {
+        let whole = View::whole(self.buffer, &self.shape());
+        are_same(&self.stride, &whole.stride)
+    }
+
+    /// The places are distinct and below the length; there are as many as the shape has elements.
+    pub fn places_are_distinct(&self)
+        ensures count { length (places self.now) ≡ element_count (extents self.now) }
+        ensures within { (i : ℕ) → i < length (places self.now) → slice_index (places self.now) i < self.now.length }
+        ensures distinct { (i j : ℕ) → i < length (places self.now) → j < length (places self.now) → slice_index (places self.now) i ≡ slice_index (places self.now) j → i ≡ j }
+    {}
+
+    /// Two views of one buffer with one shape and the same places are equal.
+    pub fn same_places_make_one_view(&self, other: &View)
+        requires buffer { self.now.buffer ≡ other.now.buffer }
+        requires length { self.now.length ≡ other.now.length }
+        requires extents { extents self.now ≡ extents other.now }
+        requires places { places self.now ≡ places other.now }
+        ensures { self.now ≡ other.now }
+    {}
 
     /// The shape.
     pub fn shape(&self) -> Shape

@@ -1,8 +1,6 @@
-use Rattle.std.proofs.Common.{◌≡◌, ℕ, ◌+◌, ◌-◌, ◌*◌, ◌^◌, ◌<◌, ◌≤◌, ◌≢◌, max, List, ◌∷◌, [], ◌++◌, map, length, get_or, take, drop, replicate, reverse, insert, remove, set, arith, rules, refl, sym, ap, ap₂, subst, ◌∙◌, ℤ, pos, ◌+ℤ◌, ◌*ℤ◌, ◌≤ℤ◌, ◌<ℤ◌, unsigned_abs, lit<, lit≤, Some, None, Ok, Err, true, false, IsTrue, SFits, w64, to_z, of_z, to_z-of_z}
-use mir.Syntax.{w128}
-use Rattle.std.proofs.lemmas.Int.{ints}
+use Rattle.std.proofs.Common.{◌≡◌, ◌-◌, ◌∷◌, [], take, sym, ◌∙◌, true, false}
 use Rattle.view_places.specs.Arrays.{is_small}
-use Rattle.view_places.proofs.Joins.{small-four, broadcast-ok, broadcast-limit, broadcast-value}
+use Rattle.view_places.proofs.Joins.{small-four, broadcast-ok, broadcast-limit}
 use Rattle.view_places.proofs.aligned.broadcast.Goals as goal
 
 pub returns-then-is_small-clause-value : goal.returns-then-is_small-clause-value

@@ -1,4 +1,4 @@
-use Rattle.std.proofs.Common.{◌≡◌, ℕ, ◌+◌, ◌-◌, ◌<◌, ◌≤◌, ◌≢◌, List, length, get_or, take, arith, rules, refl, sym, ap, ◌∙◌}
+use Rattle.std.proofs.Common.{arith, rules}
 use Rattle.view_places.proofs.Broadcasts.{back-inside, back-missing}
 use Rattle.view_places.proofs.aligned.extent_back.Goals as goal
 

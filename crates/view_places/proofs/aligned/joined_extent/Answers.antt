@@ -1,4 +1,4 @@
-use Rattle.std.proofs.Common.{◌≡◌, ℕ, ◌+◌, ◌-◌, ◌<◌, ◌≤◌, ◌≢◌, List, length, get_or, take, arith, rules, refl, sym, ap, ◌∙◌}
+use Rattle.std.proofs.Common.{rules}
 use Rattle.view_places.proofs.Broadcasts.{pair-first, pair-second, pair-apart}
 use Rattle.view_places.proofs.aligned.joined_extent.Goals as goal
 

@@ -1,6 +1,4 @@
-use Rattle.std.proofs.Common.{◌≡◌, ℕ, ◌+◌, ◌-◌, ◌*◌, ◌^◌, ◌<◌, ◌≤◌, ◌≢◌, max, List, ◌∷◌, [], ◌++◌, map, length, get_or, take, drop, replicate, reverse, insert, remove, set, arith, rules, refl, sym, ap, ap₂, subst, ◌∙◌, ℤ, pos, ◌+ℤ◌, ◌*ℤ◌, ◌≤ℤ◌, ◌<ℤ◌, unsigned_abs, lit<, lit≤, Some, None, Ok, Err, true, false, IsTrue, SFits, w64, to_z, of_z, to_z-of_z}
-use mir.Syntax.{w128}
-use Rattle.std.proofs.lemmas.Int.{ints}
+use Rattle.std.proofs.Common.{◌≡◌, ℕ, ◌-◌, ◌≤◌, max, ◌∷◌, [], ◌++◌, map, length, get_or, take, replicate, set, arith, rules, sym, ap, ◌∙◌, true}
 use Rattle.std.proofs.lemmas.List.{length-take-le}
 use Rattle.view_places.specs.Arrays.{extent_back, proper_extents}
 use Rattle.view_places.specs.Alignment.{all_fit}

@@ -1,4 +1,4 @@
-use Rattle.std.proofs.Common.{◌≡◌, ℕ, ◌-◌, ◌++◌, List, [], ◌∷◌, map, take, replicate, true, get_or, length, max}
+use Rattle.std.proofs.Common.{◌≡◌, ℕ, ◌-◌, ◌++◌, [], ◌∷◌, map, take, replicate, true, get_or, max}
 use Rattle.view_places.specs.Alignment.{all_fit}
 use Rattle.view_places.specs.Arrays.{proper_extents}
 use Rattle.view_places.proofs.Broadcasts.{aligned}

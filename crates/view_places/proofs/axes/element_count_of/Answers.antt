@@ -1,5 +1,4 @@
-use Rattle.std.proofs.Common.{◌≡◌, ℕ, ◌+◌, ◌-◌, ◌*◌, ◌^◌, ◌<◌, ◌≤◌, ◌≢◌, List, ◌∷◌, [], ◌++◌, length, get_or, take, drop, replicate, reverse, remove, set, arith, rules, refl, sym, ap, subst, ◌∙◌, ℤ, pos, ◌+ℤ◌, ◌*ℤ◌, ◌≤ℤ◌, ◌<ℤ◌, unsigned_abs, lit<, lit≤}
-use Rattle.std.proofs.lemmas.Int.{ints}
+use Rattle.std.proofs.Common.{◌-◌, ◌^◌, arith, rules, lit<}
 use Rattle.view_places.proofs.Fours.{mul-below, four-count}
 use Rattle.view_places.proofs.axes.element_count_of.Goals as goal
 

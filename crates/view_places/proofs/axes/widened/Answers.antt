@@ -1,4 +1,4 @@
-use Rattle.std.proofs.Common.{◌≡◌, ℕ, ◌+◌, ◌-◌, ◌*◌, ◌^◌, ◌<◌, ◌≤◌, ◌≢◌, List, ◌∷◌, [], ◌++◌, length, get_or, take, drop, replicate, reverse, remove, set, arith, rules, refl, sym, ap, subst, ◌∙◌, ℤ, pos, ◌+ℤ◌, ◌*ℤ◌, ◌≤ℤ◌, ◌<ℤ◌, unsigned_abs, lit<, lit≤}
+use Rattle.std.proofs.Common.{arith, rules, pos}
 use Rattle.std.proofs.lemmas.Int.{ints}
 use Rattle.view_places.proofs.Fours.{four-same}
 use Rattle.view_places.proofs.axes.widened.Goals as goal

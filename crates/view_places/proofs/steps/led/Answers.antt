@@ -1,5 +1,4 @@
-use Rattle.std.proofs.Common.{◌≡◌, ℕ, ◌+◌, ◌-◌, ◌*◌, ◌^◌, ◌<◌, ◌≤◌, ◌≢◌, List, ◌∷◌, [], ◌++◌, length, get_or, take, drop, replicate, reverse, insert, remove, set, arith, rules, refl, sym, ap, subst, ◌∙◌, ℤ, pos, ◌+ℤ◌, ◌*ℤ◌, ◌≤ℤ◌, ◌<ℤ◌, unsigned_abs, lit<, lit≤, Some, None, SFits, w64, to_z, of_z, to_z-of_z}
-use mir.Syntax.{w128}
+use Rattle.std.proofs.Common.{◌*◌, ◌^◌, ◌<◌, ◌≤◌, get_or, arith, rules, pos, unsigned_abs, SFits, w64}
 use Rattle.std.proofs.lemmas.Int.{ints}
 use Rattle.view_places.proofs.Fours.{four-led, led-size}
 use Rattle.view_places.proofs.steps.led.Goals as goal

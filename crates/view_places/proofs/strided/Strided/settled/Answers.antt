@@ -1,8 +1,7 @@
-use Rattle.std.proofs.Common.{◌≡◌, ℕ, ◌+◌, ◌-◌, ◌*◌, ◌^◌, ◌<◌, ◌≤◌, ◌≢◌, List, ◌∷◌, [], ◌++◌, length, get_or, take, drop, replicate, reverse, insert, remove, set, arith, rules, refl, sym, ap, subst, ◌∙◌, ℤ, pos, ◌+ℤ◌, ◌*ℤ◌, ◌≤ℤ◌, ◌<ℤ◌, unsigned_abs, lit<, SFits, lit≤}
+use Rattle.std.proofs.Common.{◌≡◌, ◌-◌, ◌<◌, get_or, take, arith, rules, pos, ◌≤ℤ◌, ◌<ℤ◌, lit<, SFits}
 use mir.Syntax.{w128}
 use Rattle.std.proofs.lemmas.Int.{ints}
 use Rattle.view_places.specs.Arrays.{element_count}
-use Rattle.view_places.specs.Strides.{IsSettled, led_to, settled_strides}
 use Rattle.view_places.proofs.Settled.{offset-within}
 use Rattle.view_places.proofs.Shapes.{nothing-inside, count-take, stride-fits, settled_without_elements, same-settled, same-led}
 use Rattle.view_places.proofs.strided.Strided.settled.Goals as goal

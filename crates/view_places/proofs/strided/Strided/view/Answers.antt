@@ -1,6 +1,4 @@
-use Rattle.std.proofs.Common.{◌≡◌, ℕ, ◌+◌, ◌-◌, ◌*◌, ◌^◌, ◌<◌, ◌≤◌, ◌≢◌, List, ◌∷◌, [], ◌++◌, length, get_or, take, drop, replicate, reverse, insert, remove, set, arith, rules, refl, sym, ap, ap₂, subst, ◌∙◌, ℤ, pos, ◌+ℤ◌, ◌*ℤ◌, ◌≤ℤ◌, ◌<ℤ◌, unsigned_abs, lit<, lit≤, Some, None, SFits, w64, to_z, of_z, to_z-of_z}
-use mir.Syntax.{w128}
-use Rattle.std.proofs.lemmas.Int.{ints}
+use Rattle.std.proofs.Common.{take, rules, sym, subst, ℤ, SFits, w64, to_z-of_z}
 use Rattle.view_places.specs.Strides.{LeadsWithin, LeadsApart}
 use Rattle.view_places.proofs.Settled.{strided_same}
 use Rattle.view_places.proofs.Shapes.{within-same, apart-same}

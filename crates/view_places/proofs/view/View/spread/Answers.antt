@@ -1,4 +1,4 @@
-use Rattle.std.proofs.Common.{◌≢◌, IsTrue, false, ◌≡◌, ℕ, List, ◌∷◌, [], length, take, arith, rules, refl, sym, ap, ◌∙◌, Ok, Err, Result}
+use Rattle.std.proofs.Common.{◌≢◌, ◌≡◌, ℕ, List, ◌∷◌, [], take, rules, sym, ap, ◌∙◌, Ok}
 use Rattle.view_places.specs.declared.shape.Shape.{Shape}
 use Rattle.view_places.specs.Arrays.{broadcast_of}
 use Rattle.view_places.proofs.Broadcasts.{fits-joined, ok-joined}

@@ -1,4 +1,4 @@
-use Rattle.std.proofs.Common.{◌≡◌, ℕ, ◌+◌, ◌-◌, ◌*◌, ◌^◌, ◌<◌, ◌≤◌, ◌≢◌, List, ◌∷◌, [], ◌++◌, length, get_or, take, drop, replicate, reverse, insert, remove, set, arith, rules, refl, sym, ap, subst, ◌∙◌, ℤ, pos, ◌+ℤ◌, ◌*ℤ◌, ◌≤ℤ◌, ◌<ℤ◌, unsigned_abs, lit<, lit≤, Some, None}
+use Rattle.std.proofs.Common.{arith, rules, refl, ◌∙◌}
 use Rattle.std.proofs.lemmas.Int.{ints}
 use Rattle.view_places.proofs.Operations.{turned-shape, turned-extents, turned-within, turned-apart, turned-places}
 use Rattle.view_places.proofs.view.View.transpose.Goals as goal

@@ -1,8 +1,6 @@
-use Rattle.std.proofs.Common.{◌≡◌, ℕ, ◌+◌, ◌-◌, ◌*◌, ◌^◌, ◌<◌, ◌≤◌, ◌≢◌, List, ◌∷◌, [], ◌++◌, length, get_or, take, drop, replicate, reverse, insert, remove, set, arith, rules, refl, sym, ap, subst, ◌∙◌, ℤ, pos, ◌+ℤ◌, ◌*ℤ◌, ◌≤ℤ◌, ◌<ℤ◌, unsigned_abs, lit<, lit≤}
-use Rattle.std.proofs.lemmas.Int.{ints}
-use Rattle.std.specs.List.{range_with_len}
-use Rattle.view_places.specs.Arrays.{element_count, is_small, order_of}
-use Rattle.view_places.specs.Strides.{IsArrayShape, weights, LeadsWithin, LeadsApart}
+use Rattle.std.proofs.Common.{◌≡◌, ◌-◌, ◌^◌, ◌≤◌, List, take, arith, sym, subst, ◌∙◌, ℤ, pos}
+use Rattle.view_places.specs.Arrays.{element_count}
+use Rattle.view_places.specs.Strides.{LeadsWithin, LeadsApart}
 use Rattle.view_places.proofs.PartLemmas.{small_count}
 use Rattle.view_places.proofs.Shapes.{count-take, whole-within, whole-apart, whole-places}
 use Rattle.view_places.proofs.view.View.whole.Goals as goal
