@@ -1,0 +1,5 @@
+mod Bindings
+mod Lists
+mod Modules
+mod Nests
+mod Theorem

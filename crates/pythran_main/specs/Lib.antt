@@ -1,0 +1,11 @@
+pub mod Answer
+pub mod Delivered
+pub mod Ending
+pub mod Kernel
+pub mod Module
+pub mod Prepared
+pub mod Request
+pub mod Rows
+pub mod Theorem
+pub mod Words
+pub mod World
