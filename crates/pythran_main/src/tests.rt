@@ -248,3 +248,39 @@ fn a_long_module(rt: HostRuntime) -> Result<(), Fail> {
     assert_eq!(rt; err.written(), b"error long\n".as_slice());
     Ok(())
 }
+
+/// The words of a call whose one buffer has this many elements.
+fn words_of_row(alloc: Global, count: usize) -> Result<Vec<String>, AllocError> {
+    let mut row = String::from_str(alloc, "buf:A=0")?;
+    for _ in 1..count {
+        row.push_str(",0")?;
+    }
+    let mut words = make_words(alloc, "run m.py add")?;
+    words.push(row)?;
+    Ok(words)
+}
+
+#[test]
+fn extents_at_the_limit(rt: HostRuntime) -> Result<(), Fail> {
+    let alloc = rt.alloc();
+    for (count, text) in [(4_194_304, "error item 0\n"), (4_194_305, "error item 1\n")] {
+        let slots = vec![in alloc; make_slot(alloc, "m.py", ADD)?]?;
+        let mut files = MemFiles::new(alloc, slots, Vec::new(alloc))?;
+        let mut out = MemSink::new(alloc, 100, Vec::new(alloc))?;
+        let mut err = MemSink::new(alloc, 100, Vec::new(alloc))?;
+        let words = words_of_row(alloc, count)?;
+        let status = pythran(
+            &rt,
+            alloc,
+            words.as_slice(),
+            &mut files,
+            &mut out,
+            &mut err,
+            &OpenGate,
+        );
+        assert_eq!(rt; status, 4);
+        assert_eq!(rt; out.written().len(), 0);
+        assert_eq!(rt; err.written(), text.as_bytes());
+    }
+    Ok(())
+}
