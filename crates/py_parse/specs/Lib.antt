@@ -1,0 +1,9 @@
+pub mod Lexemes
+pub mod Trees
+pub mod Parser
+pub mod Descent
+pub mod Blocks
+pub mod Grammar
+pub mod Stack
+pub mod Notes
+pub mod Parsed

@@ -1,0 +1,29 @@
+-- The notes of a module, each with the token that it speaks of.
+use Rattle.std.specs.Prelude.{ℕ, Bool, true, false, not, ◌&&◌, if◌then◌else◌, nat_le, List, [], ◌∷◌, map}
+use Rattle.py_lex.specs.Bytes.{Bytes}
+use Rattle.py_lex.specs.Lexed.{text_of}
+use Rattle.py_lex.specs.declared.token.Token.{Token}
+use Rattle.py_lex.specs.declared.token.TokenKind.{TokenKind}
+use Rattle.py_lex.specs.declared.token.TokenKind.TheVariants as kind
+use Rattle.py_parse.specs.declared.tree.Note.{Note}
+
+-- an Indent and a Dedent only move with the token behind them
+abbrev pub is_move : TokenKind → Bool
+is_move kind.Indent = true
+is_move kind.Dedent = true
+is_move _ = false
+
+-- a token that stands behind a note
+abbrev pub is_behind : Token → Token → Bool
+is_behind note token = nat_le note.end token.start && not (is_move token.kind)
+
+-- the first token behind a note; the End stands behind every note
+abbrev pub next_of : Token → List Token → Token
+next_of note [] = note
+next_of note (token ∷ tokens) = if is_behind note token then token else next_of note tokens
+
+abbrev pub note_of : Bytes → List Token → Token → Note
+note_of source tokens note = record { text = text_of source note; loc = note.loc; next = next_of note tokens }
+
+abbrev pub notes_of : Bytes → List Token → List Token → List Note
+notes_of source tokens notes = map (note_of source tokens) notes

