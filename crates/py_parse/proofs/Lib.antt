@@ -1,1 +1,3 @@
 pub mod ReadSteps
+pub mod ReadLists
+pub mod ReadBrackets
