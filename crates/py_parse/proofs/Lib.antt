@@ -1,3 +1,4 @@
 pub mod ReadSteps
 pub mod ReadLists
 pub mod ReadBrackets
+pub mod ReadTrailers
