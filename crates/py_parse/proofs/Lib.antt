@@ -2,3 +2,4 @@ pub mod ReadSteps
 pub mod ReadLists
 pub mod ReadBrackets
 pub mod ReadTrailers
+pub mod ReadOperand

@@ -26,6 +26,10 @@ split ts a b rest parts = rw parts (append_assoc a b rest)
 pub shift : (ts a b rest : Lexemes) (x : Lexeme) → ts ≡ a ++ b → a ≡ x ∷ [] → ts ++ rest ≡ x ∷ (b ++ rest)
 shift ts a b rest x parts tok = split ts a b rest parts ∙ ap (λ (us : Lexemes). us ++ (b ++ rest)) tok
 
+-- the same where nothing else of the rule stands behind it
+pub closed : (k : Terminal) (at : Loc) (text : Bytes) (used b rest a : Lexemes) → used ≡ a ++ b → a ≡ record { kind = k; loc = at; text = text } ∷ [] → b ≡ [] → used ++ rest ≡ record { kind = k; loc = at; text = text } ∷ rest
+closed k at text used b rest a parts tok empty = rw (shift used a b rest (record { kind = k; loc = at; text = text }) parts tok, empty) refl
+
 pub only : (ts a b : Lexemes) → ts ≡ a ++ b → b ≡ [] → ts ≡ a
 only ts a b parts empty = parts ∙ (ap (λ (us : Lexemes). a ++ us) empty ∙ append-nil a)
 

@@ -12,7 +12,7 @@ use Rattle.py_parse.specs.Grammar as g
 use Rattle.py_parse.specs.Grammar.{◌>>=◌}
 use Rattle.py_parse.specs.Lexemes.{Lexeme, Lexemes, same}
 use Rattle.py_parse.specs.Parser.{kind, Outcome, Parser, and_then, pure}
-use Rattle.py_parse.proofs.ReadSteps.{split, shift, only, not_same, expect_takes, name_takes, loose, begin, begins_not}
+use Rattle.py_parse.proofs.ReadSteps.{split, shift, closed, only, not_same, expect_takes, name_takes, loose, begin, begins_not}
 use Rattle.py_parse.proofs.ReadLists.{Ends, Item, some_read, listed_read}
 use Rattle.py_parse.proofs.ReadBrackets.{IsRead, Begins, Level, arg_item, subscript_item}
 
@@ -33,10 +33,6 @@ abbrev AttrOf : g.Grammar Trailer
 AttrOf = do
   x ← g.name
   g.gives (trailer.Attr x)
-
--- a closing token, and nothing behind it that the rule takes
-closed : (k : Terminal) (at : Loc) (text : Bytes) (used b rest a : Lexemes) → used ≡ a ++ b → a ≡ record { kind = k; loc = at; text = text } ∷ [] → b ≡ [] → used ++ rest ≡ record { kind = k; loc = at; text = text } ∷ rest
-closed k at text used b rest a parts tok empty = rw (shift used a b rest (record { kind = k; loc = at; text = text }) parts tok, empty) refl
 
 call_read : (p : Parser Expr) (R : g.Grammar Expr) → IsRead p R → Begins R → (at : Loc) (text : Bytes) (x : Trailer) (used rest : Lexemes) → CallOf R at x used → call p (record { kind = t.OpenParen; loc = at; text = text } ∷ (used ++ rest)) ≡ Ok (x, rest)
 unfolding call
