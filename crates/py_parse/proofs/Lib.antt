@@ -3,3 +3,4 @@ pub mod ReadLists
 pub mod ReadBrackets
 pub mod ReadTrailers
 pub mod ReadOperand
+pub mod ReadExpr

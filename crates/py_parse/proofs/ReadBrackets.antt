@@ -68,11 +68,15 @@ arg_item p R read begins = record {
   apart = not_same t.CloseParen t.Comma (λ e. absurd cc);
 }
 
-pub expr_item : (p : Parser Expr) (R : g.Grammar Expr) → IsRead p R → Begins R → Item t.CloseParen p R
-expr_item p R read begins = record {
-  read = λ x used rest is ends. read x used rest is (paren_loose (kind rest) ends);
-  begins = λ x used rest is. begins_not (kind (used ++ rest)) t.CloseParen (begins x used rest is) refl;
-  apart = not_same t.CloseParen t.Comma (λ e. absurd cc);
+expr_close : (close : Terminal) → 11 < loose close → (k : Terminal) → Ends close k → 11 < loose k
+expr_close close far k (inl e) = rw e (omega arith)
+expr_close close far k (inr e) = rw e far
+
+pub expr_item : (close : Terminal) (p : Parser Expr) (R : g.Grammar Expr) → begin close ≡ 0 → 11 < loose close → same close t.Comma ≡ false → IsRead p R → Begins R → Item close p R
+expr_item close p R ends far apart read begins = record {
+  read = λ x used rest is k. read x used rest is (expr_close close far (kind rest) k);
+  begins = λ x used rest is. begins_not (kind (used ++ rest)) close (begins x used rest is) ends;
+  apart = apart;
 }
 
 -- ---- subscripts

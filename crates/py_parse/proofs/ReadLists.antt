@@ -4,8 +4,8 @@ use Rattle.py_parse.specs.declared.terminal.Terminal.{Terminal}
 use Rattle.py_parse.specs.declared.terminal.Terminal.TheVariants as t
 use Rattle.py_parse.specs.Grammar as g
 use Rattle.py_parse.specs.Lexemes.{Lexeme, Lexemes, same}
-use Rattle.py_parse.specs.Parser.{kind, Outcome, Parser, comma, behind_comma, some_from, some, more}
-use Rattle.py_parse.proofs.ReadSteps.{seq, split, only, same_self, comma_takes, no_comma}
+use Rattle.py_parse.specs.Parser.{kind, Outcome, Parser, name, comma, behind_comma, some_from, some, more}
+use Rattle.py_parse.proofs.ReadSteps.{split, same_self, not_same, name_takes, comma_takes, no_comma}
 
 -- what stands behind an item
 abbrev pub Ends : Terminal → Terminal → Type 0
@@ -58,3 +58,11 @@ listed_read {A = A} close item R can found xs used rest (inl (none, empty)) clos
 listed_read close item R can found xs used rest (inr is) closes =
     goes_on close (some close item) found (used ++ rest) (some_begins close item R can xs used rest is)
     ∙ some_read close item R can found xs used rest is closes
+
+-- names with commas between them
+pub name_item : (close : Terminal) → close ≢ t.Name → close ≢ t.Comma → Item close name g.name
+name_item close other apart = record {
+  read = λ x used rest is ends. rw is (name_takes x.loc x.text rest);
+  begins = λ x used rest is. rw is (not_same t.Name close (λ e. other (sym e)));
+  apart = not_same close t.Comma apart;
+}

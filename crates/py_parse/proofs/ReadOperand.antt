@@ -11,7 +11,7 @@ use Rattle.py_parse.specs.Grammar as g
 use Rattle.py_parse.specs.Lexemes.{Lexeme, Lexemes, same}
 use Rattle.py_parse.specs.Parser.{kind, Outcome, Parser, and_then, pure}
 use Rattle.py_parse.specs.Trees.{sign}
-use Rattle.py_parse.proofs.ReadSteps.{split, shift, closed, only, expect_takes, number_takes, loose, begin, no_sign}
+use Rattle.py_parse.proofs.ReadSteps.{split, shift, closed, only, not_same, expect_takes, number_takes, loose, begin, no_sign, sign_begins}
 use Rattle.py_parse.proofs.ReadLists.{listed_read}
 use Rattle.py_parse.proofs.ReadBrackets.{IsRead, Begins, Level, expr_item}
 use Rattle.py_parse.proofs.ReadTrailers.{trailers_read}
@@ -56,7 +56,7 @@ atom_read (suc row) (Some p) R opens begins x used rest (inr (inr (inr (inr (inr
     let closes : kind (z ++ rest) ≡ t.CloseParen = rw close_is refl in
     rw (shift used a b rest (record { kind = t.OpenParen; loc = at; text = text }) parts tok, split b c d rest b_parts, x_is,
       opens y c (d ++ rest) is_y far, comma_is, split v w z rest v_parts,
-      listed_read t.CloseParen p R (expr_item p R opens begins) (y ∷ []) ys w (z ++ rest) are closes, close_is, expect_takes t.CloseParen at3 text3 rest) refl
+      listed_read t.CloseParen p R (expr_item t.CloseParen p R refl (omega arith) (not_same t.CloseParen t.Comma (λ e. absurd cc)) opens begins) (y ∷ []) ys w (z ++ rest) are closes, close_is, expect_takes t.CloseParen at3 text3 rest) refl
 
 primary_read : (depth row : ℕ) (front inner : Inner) (R : g.Grammar Expr) → Level depth inner R → Opens row front R → (x : Expr) (used rest : Lexemes) → g.primary depth row R x used → 1 < loose (kind rest) → primary front inner (used ++ rest) ≡ Ok (x, rest)
 unfolding primary
@@ -98,19 +98,13 @@ power_begins : (depth row : ℕ) (R : g.Grammar Expr) (x : Expr) (used rest : Le
 power_begins depth row R x used rest (inl is) = primary_begins depth row R x used rest is
 power_begins depth row R x used rest (inr (first, a, b, parts, is_first, more)) = rw (split used a b rest parts) (primary_begins depth row R first a (b ++ rest) is_first)
 
-sign_at : (k : Terminal) (byte : ℕ) → sign k ≡ Some byte → begin k ≡ 2
-sign_at t.Plus byte e = refl
-sign_at t.Minus byte e = refl
-sign_at t.Tilde byte e = refl
-sign_at _ byte e = absurd cc
-
 -- an operand begins with its first lexeme or with a sign
 pub unary_begins : (depth row : ℕ) (R : g.Grammar Expr) (x : Expr) (used rest : Lexemes) → g.unary depth row R x used → (1 ≤ begin (kind (used ++ rest))) × (begin (kind (used ++ rest)) < 3)
 unary_begins depth zero R x used rest is =
     let first = power_begins depth zero R x used rest is in
     (omega arith, omega arith)
 unary_begins depth (suc row) R x used rest (inl (s, a, b, parts, (k, is_sign, (text, tok)), more)) =
-    let first = sign_at k s.0 is_sign in
+    let first = sign_begins k s.0 is_sign in
     rw (shift used a b rest (record { kind = k; loc = s.1; text = text }) parts tok) (omega arith, omega arith)
 unary_begins depth (suc row) R x used rest (inr is) =
     let first = power_begins depth (suc row) R x used rest is in
