@@ -1,20 +1,18 @@
 -- Arguments, subscripts and trailers are read as the grammar gives them.
-use Rattle.std.proofs.Common.{◌≡◌, ◌≢◌, ℕ, zero, suc, ◌+◌, ◌<◌, ◌≤◌, Bool, true, false, if◌then◌else◌, List, [], ◌∷◌, ◌++◌, length, length-append, append_assoc, append-nil, Option, Some, None, Result, Ok, Err, inl, inr, ◌⊎◌, refl, ap, sym, ◌∙◌, arith}
+use Rattle.std.proofs.Common.{◌≡◌, ℕ, zero, suc, ◌<◌, ◌≤◌, false, ◌∷◌, ◌++◌, Option, Some, None, Ok, inl, inr, ◌⊎◌, refl, ◌∙◌, arith}
 use Rattle.py_parse.specs.declared.terminal.Terminal.{Terminal}
 use Rattle.py_parse.specs.declared.terminal.Terminal.TheVariants as t
 use Rattle.py_parse.specs.declared.tree.Expr.{Expr}
-use Rattle.py_parse.specs.declared.tree.Trailer.{Trailer}
-use Rattle.py_parse.specs.declared.tree.Trailer.TheVariants as trailer
 use Rattle.py_parse.specs.declared.tree.Arg.{Arg, roll-Arg}
 use Rattle.py_parse.specs.declared.tree.Sub.{Sub}
 use Rattle.py_parse.specs.declared.tree.Sub.TheVariants as sub
-use Rattle.py_parse.specs.Descent.{Inner, arg, arg_by, bound, bound_by, step, step_by, cut, cut_by, subscript, subscript_by, subscript_from, call, pick, attribute, trailers_by, trailers_from, trailers}
+use Rattle.py_parse.specs.Descent.{Inner, arg, arg_by, bound, bound_by, step, step_by, cut, cut_by, subscript, subscript_by, subscript_from}
 use Rattle.py_parse.specs.Grammar as g
 use Rattle.py_parse.specs.Grammar.{◌>>=◌}
 use Rattle.py_parse.specs.Lexemes.{Lexeme, Lexemes, same}
-use Rattle.py_parse.specs.Parser.{kind, Outcome, Parser, and_then, pure}
-use Rattle.py_parse.proofs.ReadSteps.{split, shift, only, not_same, expect_takes, name_takes, loose, begin, begins_not}
-use Rattle.py_parse.proofs.ReadLists.{Ends, Item, some_read, listed_read}
+use Rattle.py_parse.specs.Parser.{kind, Parser, and_then, pure}
+use Rattle.py_parse.proofs.ReadSteps.{split, shift, only, not_same, expect_takes, loose, begin, begins_not}
+use Rattle.py_parse.proofs.ReadLists.{Ends, Item}
 
 -- a parser of expressions reads what the grammar gives, before what no expression goes on with
 abbrev pub IsRead : Parser Expr → g.Grammar Expr → Type 0
@@ -54,8 +52,14 @@ arg_read p R read x used rest (inl (y, a, b, parts, is_y, (x_is, b_is))) ends =
 arg_read p R read x used rest (inr (key, a, b, parts, is_key, (at, c, d, b_parts, (text, tok), (y, e, f, d_parts, is_y, (x_is, f_is))))) ends =
     let assign : Lexeme = record { kind = t.Assign; loc = at; text = text } in
     let far : 11 < loose (kind (assign ∷ (e ++ rest))) = omega arith in
-    rw (split used a b rest parts, shift b c d rest assign b_parts tok, only d e f d_parts f_is, x_is,
-      read key a (assign ∷ (e ++ rest)) is_key far, read y e rest is_y (paren_loose (kind rest) ends)) refl
+    rw (
+      split used a b rest parts,
+      shift b c d rest assign b_parts tok,
+      only d e f d_parts f_is,
+      x_is,
+      read key a (assign ∷ (e ++ rest)) is_key far,
+      read y e rest is_y (paren_loose (kind rest) ends),
+    ) refl
 
 arg_begins : (R : g.Grammar Expr) → Begins R → (x : Arg) (used rest : Lexemes) → g.arg R x used → 1 ≤ begin (kind (used ++ rest))
 arg_begins R begins x used rest (inl (y, a, b, parts, is_y, more)) = rw (split used a b rest parts) (begins y a (b ++ rest) is_y)
@@ -130,9 +134,15 @@ CutOf R start = do
 cut_read : (p : Parser Expr) (R : g.Grammar Expr) → IsRead p R → Begins R → (start : Option Expr) (x : Sub) (used rest : Lexemes) → CutOf R start x used → Ends t.CloseBracket (kind rest) → cut p start (used ++ rest) ≡ Ok (x, rest)
 unfolding cut
 cut_read p R read begins start x used rest (at, a, b, parts, (text, tok), (stop, c, d, b_parts, is_stop, (by, e, f, d_parts, is_by, (x_is, f_is)))) ends =
-    rw (shift used a b rest (record { kind = t.Colon; loc = at; text = text }) parts tok, expect_takes t.Colon at text (b ++ rest), split b c d rest b_parts,
-      only d e f d_parts f_is, x_is, bound_read p R read begins stop c (e ++ rest) is_stop (step_next R by e rest is_by ends),
-      step_read p R read begins by e rest is_by ends) refl
+    rw (
+      shift used a b rest (record { kind = t.Colon; loc = at; text = text }) parts tok,
+      expect_takes t.Colon at text (b ++ rest),
+      split b c d rest b_parts,
+      only d e f d_parts f_is,
+      x_is,
+      bound_read p R read begins stop c (e ++ rest) is_stop (step_next R by e rest is_by ends),
+      step_read p R read begins by e rest is_by ends,
+    ) refl
 
 cut_kind : (R : g.Grammar Expr) (start : Option Expr) (x : Sub) (used rest : Lexemes) → CutOf R start x used → kind (used ++ rest) ≡ t.Colon
 cut_kind R start x used rest (at, a, b, parts, (text, tok), more) =

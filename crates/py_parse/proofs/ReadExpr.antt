@@ -1,19 +1,17 @@
 -- Expressions are read as the grammar gives them: each of its trees is the one that the descent reads.
-use Rattle.std.proofs.Common.{◌≡◌, ◌≢◌, ℕ, zero, suc, ◌+◌, ◌<◌, ◌≤◌, Bool, true, false, if◌then◌else◌, List, [], ◌∷◌, ◌++◌, length, length-append, append_assoc, append-nil, Option, Some, None, Result, Ok, Err, inl, inr, ◌⊎◌, refl, ap, sym, ◌∙◌, arith}
+use Rattle.std.proofs.Common.{◌≡◌, ℕ, zero, suc, ◌+◌, ◌<◌, ◌≤◌, false, List, [], ◌∷◌, ◌++◌, length, length-append, append_assoc, append-nil, Option, Some, None, Ok, inl, inr, refl, ap, ◌∙◌, arith}
 use Rattle.krn_base.specs.declared.place.Loc.{Loc}
 use Rattle.krn_base.specs.declared.operation.BinOp.{BinOp}
-use Rattle.py_lex.specs.Bytes.{Bytes}
 use Rattle.py_parse.specs.declared.terminal.Terminal.{Terminal}
 use Rattle.py_parse.specs.declared.terminal.Terminal.TheVariants as t
 use Rattle.py_parse.specs.declared.tree.Expr.{Expr}
-use Rattle.py_parse.specs.declared.tree.Expr.TheVariants as e
 use Rattle.py_parse.specs.declared.tree.Trailer.{Trailer}
-use Rattle.py_parse.specs.Descent.{Inner, links_by, links_from, links, chain, compared_by, compared, inverted_by, inverted, joined_by, joins_from, joins, conjunction, disjunction, expr, inside, trailers}
+use Rattle.py_parse.specs.Descent.{Inner, links_from, links, chain, compared, inverted_by, inverted, joins_from, joins, conjunction, disjunction, expr, inside, trailers}
 use Rattle.py_parse.specs.Grammar as g
 use Rattle.py_parse.specs.Lexemes.{Lexeme, Lexemes, same}
-use Rattle.py_parse.specs.Parser.{kind, Outcome, Parser, and_then, pure}
-use Rattle.py_parse.specs.Trees.{operator_at, comparison, levels_of_operators}
-use Rattle.py_parse.proofs.ReadSteps.{split, shift, closed, only, same_self, loose, no_operator, operator_loose, no_comparison, comparison_loose, looser, begin}
+use Rattle.py_parse.specs.Parser.{kind, Parser}
+use Rattle.py_parse.specs.Trees.{operator_at, levels_of_operators}
+use Rattle.py_parse.proofs.ReadSteps.{split, shift, only, same_self, loose, no_operator, operator_loose, no_comparison, comparison_loose, looser, begin}
 use Rattle.py_parse.proofs.ReadLists.{Item}
 use Rattle.py_parse.proofs.ReadBrackets.{IsRead, Begins, Level, expr_item}
 use Rattle.py_parse.proofs.ReadTrailers.{trailers_read}
@@ -60,8 +58,13 @@ chain_read depth zero row inner R can x used rest is far = unary_read depth row 
 chain_read depth (suc level) row inner R can x used rest (first, a, b, parts, is_first, (more, c, d, b_parts, are, (x_is, empty))) far =
     let next = links_next (suc level) (g.chain depth level depth R) more c rest are far in
     let near : level + 2 < loose (kind (c ++ rest)) = omega arith in
-    rw (split used a b rest parts, only b c d b_parts empty, x_is, chain_read depth level row inner R can first a (c ++ rest) is_first near,
-      links_read (suc level) (chain inner depth level depth) (g.chain depth level depth R) (λ y us vs is_y lt. chain_read depth level depth inner R can y us vs is_y (omega arith)) more c rest are far) refl
+    rw (
+      split used a b rest parts,
+      only b c d b_parts empty,
+      x_is,
+      chain_read depth level row inner R can first a (c ++ rest) is_first near,
+      links_read (suc level) (chain inner depth level depth) (g.chain depth level depth R) (λ y us vs is_y lt. chain_read depth level depth inner R can y us vs is_y (omega arith)) more c rest are far,
+    ) refl
 
 abbrev BeginsSo : g.Grammar Expr → Type 0
 BeginsSo R = (x : Expr) (used rest : Lexemes) → R x used → (1 ≤ begin (kind (used ++ rest))) × (begin (kind (used ++ rest)) < 3)
@@ -80,9 +83,17 @@ compared_read depth row inner R can x used rest (inr (first, a, b, parts, is_fir
     let op_is : Lexeme = record { kind = k; loc = op.1; text = text } in
     let at = comparison_loose k op.0 is_op in
     let near : 8 < loose (kind (op_is ∷ (w ++ rest))) = omega arith in
-    rw (split used a b rest parts, only b c d b_parts empty, shift c u v rest op_is c_parts tok, only v w z v_parts empty2, x_is, second_is,
-      chain_read depth levels_of_operators row inner R can first a (op_is ∷ (w ++ rest)) is_first near, is_op,
-      chain_read depth levels_of_operators depth inner R can y w rest is_y (omega arith)) refl
+    rw (
+      split used a b rest parts,
+      only b c d b_parts empty,
+      shift c u v rest op_is c_parts tok,
+      only v w z v_parts empty2,
+      x_is,
+      second_is,
+      chain_read depth levels_of_operators row inner R can first a (op_is ∷ (w ++ rest)) is_first near,
+      is_op,
+      chain_read depth levels_of_operators depth inner R can y w rest is_y (omega arith),
+    ) refl
 
 compared_begins : (depth row : ℕ) (R : g.Grammar Expr) → BeginsSo (g.compared depth row R)
 compared_begins depth row R x used rest (inl is) = chain_begins depth levels_of_operators row R x used rest is
@@ -100,8 +111,12 @@ inverted_read depth zero inner R can x used rest is far =
     no_not None (compared inner depth zero) (kind (used ++ rest)) (used ++ rest) (compared_begins depth zero R x used rest is).1
     ∙ compared_read depth zero inner R can x used rest is far
 inverted_read depth (suc row) inner R can x used rest (inl (at, a, b, parts, (text, tok), (y, c, d, b_parts, is_y, (x_is, empty)))) far =
-    rw (shift used a b rest (record { kind = t.Not; loc = at; text = text }) parts tok, only b c d b_parts empty, x_is,
-      inverted_read depth row inner R can y c rest is_y far) refl
+    rw (
+      shift used a b rest (record { kind = t.Not; loc = at; text = text }) parts tok,
+      only b c d b_parts empty,
+      x_is,
+      inverted_read depth row inner R can y c rest is_y far,
+    ) refl
 inverted_read depth (suc row) inner R can x used rest (inr is) far =
     no_not (Some (inverted inner depth row)) (compared inner depth (suc row)) (kind (used ++ rest)) (used ++ rest) (compared_begins depth (suc row) R x used rest is).1
     ∙ compared_read depth (suc row) inner R can x used rest is far
@@ -145,9 +160,13 @@ joins_read n word operand R tight read xs used rest are far = joins_from_read n 
 conjunction_read : (depth : ℕ) (inner : Inner) (R : g.Grammar Expr) → Level depth inner R → (x : Expr) (used rest : Lexemes) → g.conjunction depth R x used → 10 < loose (kind rest) → conjunction inner depth (used ++ rest) ≡ Ok (x, rest)
 unfolding conjunction
 conjunction_read depth inner R can x used rest (first, a, b, parts, is_first, (more, c, d, b_parts, are, (x_is, empty))) far =
-    rw (split used a b rest parts, only b c d b_parts empty, x_is,
+    rw (
+      split used a b rest parts,
+      only b c d b_parts empty,
+      x_is,
       inverted_read depth depth inner R can first a (c ++ rest) is_first (joins_next 9 t.And (g.inverted depth depth R) refl more c rest are far),
-      joins_read 9 t.And (inverted inner depth depth) (g.inverted depth depth R) refl (inverted_read depth depth inner R can) more c rest are far) refl
+      joins_read 9 t.And (inverted inner depth depth) (g.inverted depth depth R) refl (inverted_read depth depth inner R can) more c rest are far,
+    ) refl
 
 conjunction_begins : (depth : ℕ) (R : g.Grammar Expr) → Begins (g.conjunction depth R)
 conjunction_begins depth R x used rest (first, a, b, parts, is_first, more) = rw (split used a b rest parts) (inverted_begins depth depth R first a (b ++ rest) is_first)
@@ -155,9 +174,13 @@ conjunction_begins depth R x used rest (first, a, b, parts, is_first, more) = rw
 disjunction_read : (depth : ℕ) (inner : Inner) (R : g.Grammar Expr) → Level depth inner R → IsRead (disjunction inner depth) (g.disjunction depth R)
 unfolding disjunction
 disjunction_read depth inner R can x used rest (first, a, b, parts, is_first, (more, c, d, b_parts, are, (x_is, empty))) far =
-    rw (split used a b rest parts, only b c d b_parts empty, x_is,
+    rw (
+      split used a b rest parts,
+      only b c d b_parts empty,
+      x_is,
       conjunction_read depth inner R can first a (c ++ rest) is_first (joins_next 10 t.Or (g.conjunction depth R) refl more c rest are far),
-      joins_read 10 t.Or (conjunction inner depth) (g.conjunction depth R) refl (conjunction_read depth inner R can) more c rest are far) refl
+      joins_read 10 t.Or (conjunction inner depth) (g.conjunction depth R) refl (conjunction_read depth inner R can) more c rest are far,
+    ) refl
 
 disjunction_begins : (depth : ℕ) (R : g.Grammar Expr) → Begins (g.disjunction depth R)
 disjunction_begins depth R x used rest (first, a, b, parts, is_first, more) = rw (split used a b rest parts) (conjunction_begins depth R first a (b ++ rest) is_first)

@@ -1,10 +1,10 @@
 -- Lists with commas are read as the grammar gives them, for any item that is read before a comma and before what ends the list.
-use Rattle.std.proofs.Common.{◌≡◌, ◌≢◌, ℕ, zero, suc, ◌+◌, ◌<◌, ◌≤◌, Bool, true, false, if◌then◌else◌, List, [], ◌∷◌, ◌++◌, length, length-append, append_assoc, append-nil, Result, Ok, Err, inl, inr, ◌⊎◌, refl, ap, sym, ◌∙◌, arith}
+use Rattle.std.proofs.Common.{◌≡◌, ◌≢◌, ℕ, zero, suc, ◌<◌, false, List, [], ◌∷◌, ◌++◌, length, length-append, append_assoc, append-nil, Ok, inl, inr, ◌⊎◌, refl, ap, sym, ◌∙◌, arith}
 use Rattle.py_parse.specs.declared.terminal.Terminal.{Terminal}
 use Rattle.py_parse.specs.declared.terminal.Terminal.TheVariants as t
 use Rattle.py_parse.specs.Grammar as g
 use Rattle.py_parse.specs.Lexemes.{Lexeme, Lexemes, same}
-use Rattle.py_parse.specs.Parser.{kind, Outcome, Parser, name, comma, behind_comma, some_from, some, more}
+use Rattle.py_parse.specs.Parser.{kind, Parser, name, behind_comma, some_from, some, more}
 use Rattle.py_parse.proofs.ReadSteps.{split, same_self, not_same, name_takes, comma_takes, no_comma}
 
 -- what stands behind an item

@@ -1,18 +1,17 @@
 -- Reading what the grammar gives: the steps of such a proof, how tightly a terminal goes on with what stands before it, and what an
 -- expression may begin with.
-use Rattle.std.proofs.Common.{◌≡◌, ◌≢◌, ℕ, zero, suc, ◌+◌, ◌<◌, ◌≤◌, ◌==◌, Bool, true, false, eqb, if◌then◌else◌, List, [], ◌∷◌, ◌++◌, length, length-append, append_assoc, append-nil, pos, Option, Some, None, Result, Ok, Err, inl, inr, ◌⊎◌, refl, ap, sym, ◌∙◌, arith}
+use Rattle.std.proofs.Common.{◌≡◌, ◌≢◌, ℕ, ◌+◌, ◌<◌, ◌≤◌, ◌==◌, Bool, true, false, eqb, if◌then◌else◌, [], ◌∷◌, ◌++◌, append_assoc, append-nil, pos, Option, Some, None, Ok, refl, ap, sym, ◌∙◌, arith}
 use Rattle.std.proofs.lemmas.Bool.Decides.{nat_tests}
-use denote.Enum.Bare.{same_true, same_false, true_same, false_same}
+use denote.Enum.Bare.{same_true, true_same, false_same}
 use Rattle.krn_base.specs.declared.place.Loc.{Loc}
 use Rattle.krn_base.specs.declared.operation.BinOp.{BinOp}
 use Rattle.py_lex.specs.Bytes.{Bytes}
 use Rattle.py_parse.specs.contracts.terminal.Terminal.{the_type}
 use Rattle.py_parse.specs.declared.terminal.Terminal.{Terminal}
 use Rattle.py_parse.specs.declared.terminal.Terminal.TheVariants as t
-use Rattle.py_parse.specs.Grammar as g
 use Rattle.py_parse.specs.Lexemes.{Lexeme, Lexemes, same}
-use Rattle.py_parse.specs.Parser.{kind, place, spelling, next, Outcome, Parser, and_then, expect, name, number, comma}
-use Rattle.py_parse.specs.Trees.{binary, level, operator_at, comparison, sign, value_of}
+use Rattle.py_parse.specs.Parser.{kind, Outcome, Parser, and_then, expect, name, number, comma}
+use Rattle.py_parse.specs.Trees.{operator_at, comparison, sign, value_of}
 
 -- ---- steps
 

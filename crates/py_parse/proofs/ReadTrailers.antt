@@ -1,5 +1,5 @@
 -- Trailers are read as the grammar gives them.
-use Rattle.std.proofs.Common.{◌≡◌, ◌≢◌, ℕ, zero, suc, ◌+◌, ◌<◌, ◌≤◌, Bool, true, false, if◌then◌else◌, List, [], ◌∷◌, ◌++◌, length, length-append, append_assoc, append-nil, Option, Some, None, Result, Ok, Err, inl, inr, ◌⊎◌, refl, ap, sym, ◌∙◌, arith}
+use Rattle.std.proofs.Common.{◌≡◌, ℕ, zero, suc, ◌<◌, ◌≤◌, List, [], ◌∷◌, ◌++◌, length, length-append, append_assoc, append-nil, Some, None, Ok, inl, inr, refl, ap, ◌∙◌, arith}
 use Rattle.krn_base.specs.declared.place.Loc.{Loc}
 use Rattle.py_lex.specs.Bytes.{Bytes}
 use Rattle.py_parse.specs.declared.terminal.Terminal.{Terminal}
@@ -10,10 +10,10 @@ use Rattle.py_parse.specs.declared.tree.Trailer.TheVariants as trailer
 use Rattle.py_parse.specs.Descent.{Inner, arg, subscript, call, pick, attribute, trailers_by, trailers_from, trailers}
 use Rattle.py_parse.specs.Grammar as g
 use Rattle.py_parse.specs.Grammar.{◌>>=◌}
-use Rattle.py_parse.specs.Lexemes.{Lexeme, Lexemes, same}
-use Rattle.py_parse.specs.Parser.{kind, Outcome, Parser, and_then, pure}
-use Rattle.py_parse.proofs.ReadSteps.{split, shift, closed, only, not_same, expect_takes, name_takes, loose, begin, begins_not}
-use Rattle.py_parse.proofs.ReadLists.{Ends, Item, some_read, listed_read}
+use Rattle.py_parse.specs.Lexemes.{Lexemes}
+use Rattle.py_parse.specs.Parser.{kind, Parser}
+use Rattle.py_parse.proofs.ReadSteps.{split, shift, closed, expect_takes, name_takes, loose}
+use Rattle.py_parse.proofs.ReadLists.{some_read, listed_read}
 use Rattle.py_parse.proofs.ReadBrackets.{IsRead, Begins, Level, arg_item, subscript_item}
 
 -- what stands behind the opening token
@@ -39,16 +39,26 @@ unfolding call
 call_read p R read begins at text x used rest (args, a, b, parts, are, (at2, c, d, b_parts, (text2, tok), (x_is, empty))) =
     let close_is : b ++ rest ≡ record { kind = t.CloseParen; loc = at2; text = text2 } ∷ rest = closed t.CloseParen at2 text2 b d rest c b_parts tok empty in
     let closes : kind (b ++ rest) ≡ t.CloseParen = rw close_is refl in
-    rw (split used a b rest parts, x_is, listed_read t.CloseParen (arg p) (g.arg R) (arg_item p R read begins) [] args a (b ++ rest) are closes,
-      close_is, expect_takes t.CloseParen at2 text2 rest) refl
+    rw (
+      split used a b rest parts,
+      x_is,
+      listed_read t.CloseParen (arg p) (g.arg R) (arg_item p R read begins) [] args a (b ++ rest) are closes,
+      close_is,
+      expect_takes t.CloseParen at2 text2 rest,
+    ) refl
 
 pick_read : (p : Parser Expr) (R : g.Grammar Expr) → IsRead p R → Begins R → (at : Loc) (text : Bytes) (x : Trailer) (used rest : Lexemes) → PickOf R at x used → pick p (record { kind = t.OpenBracket; loc = at; text = text } ∷ (used ++ rest)) ≡ Ok (x, rest)
 unfolding pick
 pick_read p R read begins at text x used rest (subs, a, b, parts, are, (at2, c, d, b_parts, (text2, tok), (x_is, empty))) =
     let close_is : b ++ rest ≡ record { kind = t.CloseBracket; loc = at2; text = text2 } ∷ rest = closed t.CloseBracket at2 text2 b d rest c b_parts tok empty in
     let closes : kind (b ++ rest) ≡ t.CloseBracket = rw close_is refl in
-    rw (split used a b rest parts, x_is, some_read t.CloseBracket (subscript p) (g.subscript R) (subscript_item p R read begins) [] subs a (b ++ rest) are closes,
-      close_is, expect_takes t.CloseBracket at2 text2 rest) refl
+    rw (
+      split used a b rest parts,
+      x_is,
+      some_read t.CloseBracket (subscript p) (g.subscript R) (subscript_item p R read begins) [] subs a (b ++ rest) are closes,
+      close_is,
+      expect_takes t.CloseBracket at2 text2 rest,
+    ) refl
 
 attribute_read : (at : Loc) (text : Bytes) (x : Trailer) (used rest : Lexemes) → AttrOf x used → attribute (record { kind = t.Dot; loc = at; text = text } ∷ (used ++ rest)) ≡ Ok (x, rest)
 unfolding attribute
