@@ -61,6 +61,11 @@ go_on {a = a} {b = b} {ts = ts} {o = Err rest} h k = record {
       let first = h.fate (b ++ K) in (first.0, ap (λ z. run first.0 z ts) (append_assoc a b K) ∙ first.1);
 }
 
+-- the same, where the first is known to read
+pub took : {A B : Type 0} {R : Grammar A} {S : A → Grammar B} {a b : Stack} {ts us : Lexemes} {x : A} {o : Outcome B}
+    → Follows R a ts (Ok (x, us)) → Follows (S x) b us o → Follows (R >>= S) (a ++ b) ts o
+took {R = R} {S = S} {a = a} {b = b} {ts = ts} {us = us} {x = x} {o = o} h k = record { fate = glue R S a b ts us x o h.fate k.fate }
+
 pub done : {A : Type 0} {ts : Lexemes} (x : A) → Follows (g.gives x) [] ts (Ok (x, ts))
 done {ts = ts} x = record { fate = record { used = []; parts = refl; is = (refl, refl); leads = λ K. record { by = λ n. (n, refl) } } }
 
