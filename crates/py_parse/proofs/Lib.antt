@@ -1,3 +1,4 @@
 pub mod Follows
 pub mod Assumed
 pub mod FollowLines
+pub mod FollowBlocks
