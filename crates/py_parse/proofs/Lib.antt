@@ -2,3 +2,4 @@ pub mod Follows
 pub mod Assumed
 pub mod FollowLines
 pub mod FollowBlocks
+pub mod FollowModules
