@@ -196,6 +196,27 @@ pub named : (ts : Lexemes) → Follows g.name (T t.Name ∷ []) ts (p.name ts)
 unfolding p.name
 named ts = name_by ts (same (kind ts) t.Name) refl
 
--- a number whose place is asked for no more
-pub Value : Grammar ℤ
-Value = g.number >>= (λ n. g.gives n.0)
+-- a value made of a number whose place is asked for no more
+numbered_by : {B : Type 0} (f : ℤ → B) (ts : Lexemes) (b : Bool) → same (kind ts) t.Number ≡ b
+    → Follows (g.number >>= (λ n. g.gives (f n.0))) (T t.Number ∷ []) ts
+      (and_then (if b then Ok (pos (value_of (spelling ts)), next ts) else Err ts) (λ n us. Ok (f n, us)))
+unfolding same
+numbered_by f ts true e = ending (λ n. f n.0) (take_number (same_true the_type tt (kind ts) t.Number e))
+numbered_by f ts false e = record { fate = λ K. refused_token ts t.Number K e }
+
+pub numbered : {B : Type 0} (f : ℤ → B) (ts : Lexemes)
+    → Follows (g.number >>= (λ n. g.gives (f n.0))) (T t.Number ∷ []) ts (and_then (p.number ts) (λ n us. Ok (f n, us)))
+unfolding p.number
+numbered f ts = numbered_by f ts (same (kind ts) t.Number) refl
+
+-- ---- how much is left
+
+pub no_longer : {A : Type 0} {R : Grammar A} {a : Stack} {ts us : Lexemes} {x : A} → Takes R a ts x us → length us ≤ length ts
+no_longer {ts = ts} {us = us} h = let e = ap length h.parts ∙ length-append h.used us in omega arith
+
+-- the lexemes that a rule takes are one at least
+pub shorter : {A : Type 0} {R : Grammar A} {a : Stack} {ts us : Lexemes} {x : A} (h : Takes R a ts x us) → 0 < length h.used → length us < length ts
+shorter {ts = ts} {us = us} h some = let e = ap length h.parts ∙ length-append h.used us in omega arith
+
+pub behind_token : {k : Terminal} {a : Stack} {ts us : Lexemes} {at : Loc} → Takes (g.token k) a ts at us → length us < length ts
+behind_token h = shorter h (let e = ap length h.is.1 in omega arith)
