@@ -17,77 +17,29 @@ use Rattle.py_parse.specs.Grammar as g
 use Rattle.py_parse.specs.Grammar.{Grammar, Arms, ◌>>=◌, ◌∣◌}
 use Rattle.py_parse.specs.Stack as k
 use Rattle.py_parse.specs.Stack.{Stack, T, N, row}
-use Rattle.py_parse.proofs.Follows.{Follows, Takes, go_on, took, done, ending, weaken, rule_by, no_row, take, expected, named}
+use Rattle.py_parse.proofs.Follows.{Follows, go_on, took, done, ending, weaken, rule_by, no_row, take, expected, named, begun}
+use Rattle.py_parse.proofs.FollowLists.{Adds, until_follows}
 use Rattle.py_parse.proofs.Assumed.{expr_follows}
 use Rattle.py_parse.proofs.FollowLines.{line_follow}
 
 -- ---- each statement takes a lexeme
 
-pub some_front : (a c : Lexemes) {ts : Lexemes} → ts ≡ a ++ c → 0 < length a → 0 < length ts
-some_front a c {ts = ts} parts h = omega (arith, ap length parts ∙ length-append a c)
-
-pub some_back : (a c : Lexemes) {ts : Lexemes} → ts ≡ a ++ c → 0 < length c → 0 < length ts
-some_back a c {ts = ts} parts h = omega (arith, ap length parts ∙ length-append a c)
-
-pub some_token : (word : Terminal) (at : Loc) (ts : Lexemes) → g.token word at ts → 0 < length ts
-some_token word at ts (text, is) = omega (arith, ap length is)
-
--- a parser that takes a lexeme leaves fewer
-pub fewer : {A : Type 0} {R : Grammar A} {a : Stack} {ts us : Lexemes} {x : A}
-    → ((used : Lexemes) → R x used → 0 < length used) → Takes R a ts x us → length us < length ts
-fewer {ts = ts} {us = us} least h =
-    let at_least : 0 < length h.used = least h.used h.is in
-    omega (arith, ap length h.parts ∙ length-append h.used us, at_least)
-
 line_some : (depth : ℕ) (x : Stmt) (ts : Lexemes) → g.line depth x ts → 0 < length ts
 line_some depth x ts (y, a, c, parts, is, (at, u, v, parts2, token, after)) =
-    some_back a c parts (some_front u v parts2 (some_token t.Newline at u token))
+    let last : 0 < length c = begun u v c parts2 token in omega (arith, ap length parts ∙ length-append a c)
+
+arm_some : (word : Terminal) (depth : ℕ) (rb : Grammar (List Stmt)) (x : Loc × Expr × List Stmt) (ts : Lexemes)
+    → g.arm word depth rb x ts → 0 < length ts
+arm_some word depth rb x ts (at, a, c, parts, token, after) = begun a c ts parts token
 
 stmt_some : (depth : ℕ) (rb : Grammar (List Stmt)) (rt : Grammar (Arms × List Stmt)) (x : Stmt) (ts : Lexemes)
     → g.stmt_with depth rb rt x ts → 0 < length ts
 stmt_some depth rb rt x ts (inl h) = line_some depth x ts h
-stmt_some depth rb rt x ts (inr (inl (y, a, c, parts, (at, u, v, parts2, token, more), after))) =
-    some_front a c parts (some_front u v parts2 (some_token t.If at u token))
-stmt_some depth rb rt x ts (inr (inr (at, a, c, parts, token, after))) = some_front a c parts (some_token t.For at a token)
+stmt_some depth rb rt x ts (inr (inl (y, a, c, parts, is, after))) =
+    let first : 0 < length a = arm_some t.If depth rb y a is in omega (arith, ap length parts ∙ length-append a c)
+stmt_some depth rb rt x ts (inr (inr (at, a, c, parts, token, after))) = begun a c ts parts token
 
--- ---- the statements of a block; `rs` is the grammar of one of them, `stmt` its parser
-
--- those that were found, and more of them
-abbrev Adds : Grammar Stmt → List Stmt → Grammar (List Stmt)
-Adds rs found = λ all us. (more : List Stmt) × (all ≡ found ++ more) × g.many rs more us
-
-adds_none : (rs : Grammar Stmt) (found all : List Stmt) (us : Lexemes) → g.gives found all us → Adds rs found all us
-adds_none rs found all us (all_is, us_is) = ([], all_is ∙ sym (append-nil found), us_is)
-
-adds_one : (rs : Grammar Stmt) (found all : List Stmt) (us : Lexemes)
-    → (rs >>= (λ x. Adds rs (found ++ x ∷ []))) all us → Adds rs found all us
-adds_one rs found all us (x, a, c, parts, is, (more, all_is, are)) =
-    (x ∷ more, all_is ∙ append_assoc found (x ∷ []) more, (a, c, parts, is, are))
-
-abbrev turn : Parser Stmt → ℕ → List Stmt → Terminal → Parser (List Stmt)
-turn stmt n found kind' =
-    if same kind' t.Dedent then p.pure found else (λ us. and_then (stmt us) (λ x vs. p.until_from t.Dedent stmt n (found ++ x ∷ []) vs))
-
-turn_follow : (depth : ℕ) (rs : Grammar Stmt) (stmt : Parser Stmt) (n : ℕ) (found : List Stmt) (ts : Lexemes) (kind' : Terminal) → kind ts ≡ kind'
-    → Follows rs (N k.Stmt depth ∷ []) ts (stmt ts)
-    → ((x : Stmt) (us : Lexemes) → Takes rs (N k.Stmt depth ∷ []) ts x us
-      → Follows (Adds rs (found ++ x ∷ [])) (N k.Stmts depth ∷ []) us (p.until_from t.Dedent stmt n (found ++ x ∷ []) us))
-    → Follows (Adds rs found) (N k.Stmts depth ∷ []) ts (turn stmt n found kind' ts)
-unfolding same
-turn_follow depth rs stmt n found ts t.Dedent is h again =
-    rule_by (ap (λ z. row k.Stmts depth z) is) (weaken (λ all us. adds_none rs found all us) (done found))
-turn_follow depth rs stmt n found ts _ is h again =
-    rule_by (ap (λ z. row k.Stmts depth z) is) (weaken (λ all us. adds_one rs found all us) (go_on h again))
-
-until_follow : (depth : ℕ) (rs : Grammar Stmt) (stmt : Parser Stmt) → ((x : Stmt) (us : Lexemes) → rs x us → 0 < length us)
-    → ((ts : Lexemes) → Follows rs (N k.Stmt depth ∷ []) ts (stmt ts)) → (n : ℕ) (found : List Stmt) (ts : Lexemes) → length ts < n
-    → Follows (Adds rs found) (N k.Stmts depth ∷ []) ts (p.until_from t.Dedent stmt n found ts)
-unfolding p.until_from
-until_follow depth rs stmt least h zero found ts turns = absurd (omega arith)
-until_follow depth rs stmt least h (suc n) found ts turns =
-    turn_follow depth rs stmt n found ts (kind ts) refl (h ts) (λ x us taken.
-    let left : length us < length ts = fewer (least x) taken in
-    until_follow depth rs stmt least h n (found ++ x ∷ []) us (omega arith))
+-- ---- blocks; `rs` is the grammar of a statement inside, `stmt` its parser
 
 -- an indented block from its Indent on
 abbrev Indented : Grammar Stmt → Grammar (List Stmt)
@@ -102,7 +54,7 @@ abbrev Behind : Grammar Stmt → Stmt → Grammar (List Stmt)
 Behind rs first = do more ← g.many rs; _ ← g.token t.Dedent; g.gives (first ∷ more)
 
 behind_as : (rs : Grammar Stmt) (first : Stmt) (y : List Stmt) (us : Lexemes)
-    → (Adds rs (first ∷ []) >>= (λ xs. g.token t.Dedent >>= (λ _. g.gives xs))) y us → Behind rs first y us
+    → (Adds (g.many rs) (first ∷ []) >>= (λ xs. g.token t.Dedent >>= (λ _. g.gives xs))) y us → Behind rs first y us
 behind_as rs first y us (xs, a, c, parts, (more, xs_is, are), (at, u, v, parts2, token, (y_is, v_is))) =
     (more, a, c, parts, are, (at, u, v, parts2, token, (y_is ∙ xs_is, v_is)))
 
@@ -110,10 +62,9 @@ behind_follow : (depth : ℕ) (rs : Grammar Stmt) (stmt : Parser Stmt) → ((x :
     → ((ts : Lexemes) → Follows rs (N k.Stmt depth ∷ []) ts (stmt ts)) → (first : Stmt) (ts : Lexemes)
     → Follows (Behind rs first) (N k.Stmts depth ∷ T t.Dedent ∷ []) ts
       (and_then (p.until t.Dedent stmt (first ∷ []) ts) (λ xs us. and_then (p.expect t.Dedent us) (λ _ vs. Ok (xs, vs))))
-unfolding p.until
 behind_follow depth rs stmt least h first ts =
     weaken (λ y us. behind_as rs first y us)
-    (go_on (until_follow depth rs stmt least h (suc (length ts)) (first ∷ []) ts (omega arith)) (λ xs us _. ending (λ _. xs) (expected us t.Dedent (λ e. absurd cc))))
+    (go_on (until_follows rs depth stmt h least (first ∷ []) ts) (λ xs us _. ending (λ _. xs) (expected us t.Dedent (λ e. absurd cc))))
 
 statements_follow : (depth : ℕ) (rs : Grammar Stmt) (stmt : Parser Stmt) → ((x : Stmt) (us : Lexemes) → rs x us → 0 < length us)
     → ((ts : Lexemes) → Follows rs (N k.Stmt depth ∷ []) ts (stmt ts)) → (ts : Lexemes)
@@ -122,8 +73,7 @@ unfolding b.statements
 statements_follow depth rs stmt least h ts =
     go_on (expected ts t.Indent (λ e. absurd cc)) (λ _ us _. go_on (h us) (λ first vs _. behind_follow depth rs stmt least h first vs))
 
--- ---- blocks
-
+-- behind a colon
 block_by_follow : (depth : ℕ) (inner : Option (Parser Stmt)) (ri : Grammar (List Stmt)) (ts : Lexemes) (kind' : Terminal) → kind ts ≡ kind'
     → ((us : Lexemes) → Follows ri (N k.Indented depth ∷ []) us (p.deeper inner b.statements us))
     → Follows ((do x ← g.line depth; g.gives (x ∷ [])) ∣ (g.token t.Newline >>= (λ _. ri))) (N k.Block depth ∷ []) ts (b.block_by depth inner kind' ts)

@@ -22,7 +22,8 @@ use Rattle.py_parse.specs.Grammar.{Grammar, ◌>>=◌, ◌∣◌}
 use Rattle.py_parse.specs.Stack as k
 use Rattle.py_parse.specs.Stack.{Stack, T, N, row, with_operator}
 use Rattle.py_parse.proofs.Follows.{Follows, go_on, took, done, ending, weaken, rule_by, no_row, take, take_name, take_operator, expected}
-use Rattle.py_parse.proofs.Assumed.{expr_follows, trailers_follow, values_follow}
+use Rattle.py_parse.proofs.FollowLists.{listed_items}
+use Rattle.py_parse.proofs.Assumed.{expr_follows, trailers_follow}
 
 -- ---- what may follow a target
 
@@ -81,7 +82,7 @@ returned_follow : (depth : ℕ) (ts : Lexemes) → kind ts ≡ t.Return
     → Follows (g.simple depth) (T t.Return ∷ N (k.More k.Value) depth ∷ []) ts (b.returned depth ts)
 unfolding b.returned
 returned_follow depth ts is =
-    weaken (λ y us h. inr (inr (inl h))) (took (take is (λ e. absurd cc)) (ending (λ xs. s.Return (place ts) xs) (values_follow depth (next ts))))
+    weaken (λ y us h. inr (inr (inl h))) (took (take is (λ e. absurd cc)) (ending (λ xs. s.Return (place ts) xs) (listed_items (g.expr depth) k.Value depth (d.expr depth) (expr_follows depth) (next ts))))
 
 simple_by_follow : (depth : ℕ) (ts : Lexemes) (kind' : Terminal) → kind ts ≡ kind'
     → Follows (g.simple depth) (N k.Simple depth ∷ []) ts (b.simple_by depth kind' ts)

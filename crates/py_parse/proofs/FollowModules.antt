@@ -17,9 +17,9 @@ use Rattle.py_parse.specs.Grammar.{Grammar, Part, Imported, Defined, Said, impor
 use Rattle.py_parse.specs.Stack as k
 use Rattle.py_parse.specs.Stack.{Stack, T, N, row, RefusedAt}
 use Rattle.py_parse.specs.Parsed.{Halves, IsModule}
-use Rattle.py_parse.proofs.Follows.{Follows, Fate, Takes, go_on, took, done, ending, weaken, alike, rule_by, no_row, take, expected, named}
-use Rattle.py_parse.proofs.Assumed.{params_follow}
-use Rattle.py_parse.proofs.FollowBlocks.{block_follow, some_front, some_token, fewer}
+use Rattle.py_parse.proofs.Follows.{Follows, Fate, Takes, go_on, took, done, ending, weaken, alike, rule_by, no_row, take, expected, named, shorter, behind_token, begun}
+use Rattle.py_parse.proofs.FollowLists.{listed_items}
+use Rattle.py_parse.proofs.FollowBlocks.{block_follow}
 
 -- ---- imports
 
@@ -50,8 +50,8 @@ imported_follow depth ts is =
     (took (take is (λ e. absurd cc)) (go_on (named (next ts)) (λ origin us _. alias_by_follow depth origin us (kind us) refl)))
 
 imported_some : (x : Import) (ts : Lexemes) → g.imported x ts → 0 < length ts
-imported_some x ts (inl (at, a, c, parts, token, after)) = some_front a c parts (some_token t.Import at a token)
-imported_some x ts (inr (at, a, c, parts, token, after)) = some_front a c parts (some_token t.Import at a token)
+imported_some x ts (inl (at, a, c, parts, token, after)) = begun a c ts parts token
+imported_some x ts (inr (at, a, c, parts, token, after)) = begun a c ts parts token
 
 -- ---- functions
 
@@ -62,7 +62,7 @@ unfolding b.defined
 defined_follow depth ts is =
     took (take is (λ e. absurd cc)) (go_on (named (next ts)) (λ called us _.
     go_on (expected us t.OpenParen (λ e. absurd cc)) (λ _ vs _.
-    go_on (params_follow depth vs) (λ params ws _.
+    go_on (listed_items g.name k.Param depth p.name named vs) (λ params ws _.
     go_on (expected ws t.CloseParen (λ e. absurd cc)) (λ _ xs _.
     go_on (expected xs t.Colon (λ e. absurd cc)) (λ _ ys _. ending (λ body. (called, params, body)) (block_follow depth ys)))))))
 
@@ -84,7 +84,7 @@ unfolding b.function
 function_follow depth ts is = record { fate = weighed_fate depth _ ts (b.defined depth ts) (defined_follow depth ts is).fate }
 
 function_some : (depth : ℕ) (x : Function) (ts : Lexemes) → g.function depth x ts → 0 < length ts
-function_some depth x ts ((at, a, c, parts, token, after), weight) = some_front a c parts (some_token t.Def at a token)
+function_some depth x ts ((at, a, c, parts, token, after), weight) = begun a c ts parts token
 
 -- ---- the parts of a module
 
@@ -128,16 +128,16 @@ part_by_follow : (depth : ℕ) (again : Halves → Parser Halves) (found : Halve
 part_by_follow depth again found ts t.Import is h =
     rule_by (ap (λ z. row k.Parts depth z) is)
     (weaken (λ y us. gathers_import depth found y us)
-    (go_on (imported_follow depth ts is) (λ x us taken. h (found.0 ++ x ∷ [], found.1) us (fewer (imported_some x) taken))))
+    (go_on (imported_follow depth ts is) (λ x us taken. h (found.0 ++ x ∷ [], found.1) us (shorter taken (imported_some x taken.used taken.is)))))
 part_by_follow depth again found ts t.Def is h =
     rule_by (ap (λ z. row k.Parts depth z) is)
     (weaken (λ y us. gathers_function depth found y us)
-    (go_on (function_follow depth ts is) (λ x us taken. h (found.0, found.1 ++ x ∷ []) us (fewer (function_some depth x) taken))))
+    (go_on (function_follow depth ts is) (λ x us taken. h (found.0, found.1 ++ x ∷ []) us (shorter taken (function_some depth x taken.used taken.is)))))
 part_by_follow depth again found ts t.Text is h =
     rule_by (ap (λ z. row k.Parts depth z) is)
     (weaken (λ y us. gathers_text depth found y us)
     (took (take is (λ e. absurd cc)) (go_on (expected (next ts) t.Newline (λ e. absurd cc)) (λ at us taken.
-    let left : length us < length (next ts) = fewer (some_token t.Newline at) taken in
+    let left : length us < length (next ts) = behind_token taken in
     h found us (omega (arith, next_le ts))))))
 part_by_follow depth again found ts t.End is h =
     rule_by (ap (λ z. row k.Parts depth z) is) (weaken (λ y us. gathers_none depth found y us) (done found))

@@ -1,4 +1,6 @@
 pub mod Follows
+pub mod FollowLists
+pub mod FollowOperand
 pub mod Assumed
 pub mod FollowLines
 pub mod FollowBlocks
