@@ -1,5 +1,5 @@
 -- Statements and blocks follow their rules.
-use Rattle.std.proofs.Common.{◌≡◌, ℕ, zero, suc, ◌+◌, ◌≤◌, ◌<◌, Bool, true, false, List, [], ◌∷◌, ◌++◌, length, Option, Some, None, Ok, Err, ◌⊎◌, inl, inr, refl, ap, sym, ◌∙◌, append_assoc, length-append, arith, if◌then◌else◌}
+use Rattle.std.proofs.Common.{◌≡◌, ℕ, zero, suc, ◌+◌, ◌<◌, List, [], ◌∷◌, ◌++◌, length, Option, Some, None, Ok, inl, inr, refl, ap, sym, ◌∙◌, append_assoc, length-append, arith}
 use Rattle.std.proofs.lemmas.List.{append-nil}
 use Rattle.krn_base.specs.declared.place.Loc.{Loc}
 use Rattle.py_parse.specs.declared.terminal.Terminal.{Terminal}
@@ -8,15 +8,14 @@ use Rattle.py_parse.specs.declared.tree.Name.{Name}
 use Rattle.py_parse.specs.declared.tree.Expr.{Expr}
 use Rattle.py_parse.specs.declared.tree.Stmt.{Stmt}
 use Rattle.py_parse.specs.declared.tree.Stmt.TheVariants as s
-use Rattle.py_parse.specs.Lexemes.{Lexemes, same}
+use Rattle.py_parse.specs.Lexemes.{Lexemes}
 use Rattle.py_parse.specs.Parser as p
-use Rattle.py_parse.specs.Parser.{Parser, and_then, kind, place, next, name_at}
-use Rattle.py_parse.specs.Descent as d
+use Rattle.py_parse.specs.Parser.{Parser, and_then, kind, place, next}
 use Rattle.py_parse.specs.Blocks as b
 use Rattle.py_parse.specs.Grammar as g
 use Rattle.py_parse.specs.Grammar.{Grammar, Arms, ◌>>=◌, ◌∣◌}
 use Rattle.py_parse.specs.Stack as k
-use Rattle.py_parse.specs.Stack.{Stack, T, N, row}
+use Rattle.py_parse.specs.Stack.{T, N, row}
 use Rattle.py_parse.proofs.Follows.{Follows, go_on, took, done, ending, weaken, rule_by, no_row, take, expected, named, begun}
 use Rattle.py_parse.proofs.FollowLists.{Adds, until_follows}
 use Rattle.py_parse.proofs.Assumed.{expr_follows}

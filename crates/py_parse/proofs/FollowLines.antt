@@ -1,26 +1,23 @@
 -- Lines follow their rules.
-use Rattle.std.proofs.Common.{◌≡◌, ℕ, zero, suc, List, [], ◌∷◌, ◌++◌, Option, Some, None, Ok, Err, ◌⊎◌, inl, inr, refl, ap, sym, ◌∙◌, append_assoc}
+use Rattle.std.proofs.Common.{◌≡◌, ℕ, [], ◌∷◌, ◌++◌, Option, Some, None, inl, inr, refl, ap, sym, ◌∙◌, append_assoc}
 use Rattle.std.proofs.lemmas.List.{append-nil}
-use Rattle.krn_base.specs.declared.place.Loc.{Loc}
 use Rattle.krn_base.specs.declared.operation.BinOp.{BinOp}
 use Rattle.py_parse.specs.declared.terminal.Terminal.{Terminal}
 use Rattle.py_parse.specs.declared.terminal.Terminal.TheVariants as t
 use Rattle.py_parse.specs.declared.tree.Name.{Name}
 use Rattle.py_parse.specs.declared.tree.Expr.{Expr}
 use Rattle.py_parse.specs.declared.tree.Expr.TheVariants as e
-use Rattle.py_parse.specs.declared.tree.Trailer.{Trailer}
 use Rattle.py_parse.specs.declared.tree.Stmt.{Stmt}
 use Rattle.py_parse.specs.declared.tree.Stmt.TheVariants as s
 use Rattle.py_parse.specs.Lexemes.{Lexemes}
 use Rattle.py_parse.specs.Trees.{augmented, trailed}
-use Rattle.py_parse.specs.Parser as p
-use Rattle.py_parse.specs.Parser.{Parser, and_then, kind, place, next, name_at}
+use Rattle.py_parse.specs.Parser.{and_then, kind, place, next, name_at}
 use Rattle.py_parse.specs.Descent as d
 use Rattle.py_parse.specs.Blocks as b
 use Rattle.py_parse.specs.Grammar as g
 use Rattle.py_parse.specs.Grammar.{Grammar, ◌>>=◌, ◌∣◌}
 use Rattle.py_parse.specs.Stack as k
-use Rattle.py_parse.specs.Stack.{Stack, T, N, row, with_operator}
+use Rattle.py_parse.specs.Stack.{T, N, row, with_operator}
 use Rattle.py_parse.proofs.Follows.{Follows, go_on, took, done, ending, weaken, rule_by, no_row, take, take_name, take_operator, expected}
 use Rattle.py_parse.proofs.FollowLists.{listed_items}
 use Rattle.py_parse.proofs.Assumed.{expr_follows, trailers_follow}

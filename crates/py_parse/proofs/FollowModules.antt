@@ -1,7 +1,6 @@
 -- Modules follow their rule.
-use Rattle.std.proofs.Common.{◌≡◌, ℕ, zero, suc, ◌+◌, ◌-◌, ◌≤◌, ◌<◌, List, [], ◌∷◌, ◌++◌, length, Option, Some, None, Ok, Err, ◌⊎◌, inl, inr, refl, ap, sym, subst, ◌∙◌, append_assoc, length-append, arith}
+use Rattle.std.proofs.Common.{◌≡◌, ℕ, zero, suc, ◌+◌, ◌-◌, ◌≤◌, ◌<◌, List, [], ◌∷◌, ◌++◌, length, Ok, Err, inl, inr, refl, ap, sym, subst, ◌∙◌, append_assoc, length-append, arith}
 use Rattle.std.proofs.lemmas.List.{append-nil}
-use Rattle.krn_base.specs.declared.place.Loc.{Loc}
 use Rattle.py_parse.specs.declared.terminal.Terminal.{Terminal}
 use Rattle.py_parse.specs.declared.terminal.Terminal.TheVariants as t
 use Rattle.py_parse.specs.declared.tree.Name.{Name}
@@ -10,14 +9,14 @@ use Rattle.py_parse.specs.declared.tree.Function.{Function}
 use Rattle.py_parse.specs.declared.tree.Stmt.{Stmt}
 use Rattle.py_parse.specs.Lexemes.{Lexemes}
 use Rattle.py_parse.specs.Parser as p
-use Rattle.py_parse.specs.Parser.{Outcome, Parser, and_then, kind, place, next}
+use Rattle.py_parse.specs.Parser.{Outcome, Parser, and_then, kind, next}
 use Rattle.py_parse.specs.Blocks as b
 use Rattle.py_parse.specs.Grammar as g
 use Rattle.py_parse.specs.Grammar.{Grammar, Part, Imported, Defined, Said, imports_of, functions_of, ◌>>=◌, ◌∣◌}
 use Rattle.py_parse.specs.Stack as k
 use Rattle.py_parse.specs.Stack.{Stack, T, N, row, RefusedAt}
 use Rattle.py_parse.specs.Parsed.{Halves, IsModule}
-use Rattle.py_parse.proofs.Follows.{Follows, Fate, Takes, go_on, took, done, ending, weaken, alike, rule_by, no_row, take, expected, named, shorter, behind_token, begun}
+use Rattle.py_parse.proofs.Follows.{Follows, Fate, go_on, took, done, ending, weaken, alike, rule_by, no_row, take, expected, named, shorter, behind_token, begun}
 use Rattle.py_parse.proofs.FollowLists.{listed_items}
 use Rattle.py_parse.proofs.FollowBlocks.{block_follow}
 
