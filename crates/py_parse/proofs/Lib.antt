@@ -1,3 +1,4 @@
 pub mod Follows
 pub mod FollowLists
 pub mod FollowOperand
+pub mod FollowExpr
