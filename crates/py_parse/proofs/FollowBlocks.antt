@@ -18,7 +18,7 @@ use Rattle.py_parse.specs.Stack as k
 use Rattle.py_parse.specs.Stack.{T, N, row}
 use Rattle.py_parse.proofs.Follows.{Follows, go_on, took, done, ending, weaken, rule_by, no_row, take, expected, named, begun}
 use Rattle.py_parse.proofs.FollowLists.{Adds, until_follows}
-use Rattle.py_parse.proofs.Assumed.{expr_follows}
+use Rattle.py_parse.proofs.FollowExpr.{expr_follows}
 use Rattle.py_parse.proofs.FollowLines.{line_follow}
 
 -- ---- each statement takes a lexeme

@@ -20,7 +20,7 @@ use Rattle.py_parse.specs.Stack as k
 use Rattle.py_parse.specs.Stack.{T, N, row, with_operator}
 use Rattle.py_parse.proofs.Follows.{Follows, go_on, took, done, ending, weaken, rule_by, no_row, take, take_name, take_operator, expected}
 use Rattle.py_parse.proofs.FollowLists.{listed_items}
-use Rattle.py_parse.proofs.Assumed.{expr_follows, trailers_follow}
+use Rattle.py_parse.proofs.FollowExpr.{expr_follows, trailers_follow}
 
 -- ---- what may follow a target
 

@@ -240,6 +240,9 @@ shorter {ts = ts} {us = us} h some = let e = ap length h.parts ∙ length-append
 pub behind_token : {k : Terminal} {a : Stack} {ts us : Lexemes} {at : Loc} → Takes (g.token k) a ts at us → length us < length ts
 behind_token h = shorter h (let e = ap length h.is.1 in omega arith)
 
+pub behind_operator : {A : Type 0} {table : Terminal → Option A} {a : Stack} {ts us : Lexemes} {x : A × Loc} → Takes (g.operator table) a ts x us → length us < length ts
+behind_operator h = shorter h (let e = ap length h.is.2.1 in omega arith)
+
 -- a rule that begins with a terminal has one lexeme at least
 pub begun : {k : Terminal} {at : Loc} (a b us : Lexemes) → us ≡ a ++ b → g.token k at a → 0 < length us
 begun a b us parts (text, is) = let e = ap length parts ∙ length-append a b in let f = ap length is in omega arith

@@ -1,7 +1,7 @@
 pub mod Follows
 pub mod FollowLists
 pub mod FollowOperand
-pub mod Assumed
+pub mod FollowExpr
 pub mod FollowLines
 pub mod FollowBlocks
 pub mod FollowModules
