@@ -60,7 +60,7 @@ behind_as rs first y us (xs, a, c, parts, (more, xs_is, are), (at, u, v, parts2,
 behind_follow : (depth : ℕ) (rs : Grammar Stmt) (stmt : Parser Stmt) → ((x : Stmt) (us : Lexemes) → rs x us → 0 < length us)
     → ((ts : Lexemes) → Follows rs (N k.Stmt depth ∷ []) ts (stmt ts)) → (first : Stmt) (ts : Lexemes)
     → Follows (Behind rs first) (N k.Stmts depth ∷ T t.Dedent ∷ []) ts
-      (and_then (p.until t.Dedent stmt (first ∷ []) ts) (λ xs us. and_then (p.expect t.Dedent us) (λ _ vs. Ok (xs, vs))))
+    (and_then (p.until t.Dedent stmt (first ∷ []) ts) (λ xs us. and_then (p.expect t.Dedent us) (λ _ vs. Ok (xs, vs))))
 behind_follow depth rs stmt least h first ts =
     weaken (λ y us. behind_as rs first y us)
     (go_on (until_follows rs depth stmt h least (first ∷ []) ts) (λ xs us _. ending (λ _. xs) (expected us t.Dedent (λ e. absurd cc))))
@@ -114,9 +114,11 @@ Tailed rt arms = λ y us. (r : Arms × List Stmt) × rt r us × (y ≡ s.If (arm
 
 otherwise_as : (elif : Grammar (Arms × List Stmt)) (rb : Grammar (List Stmt)) (arms : Arms) (y : Stmt) (us : Lexemes)
     → (do _ ← g.token t.Else; _ ← g.token t.Colon; body ← rb; g.gives (s.If arms body)) y us → Tailed (g.tail_with elif rb) arms y us
-otherwise_as elif rb arms y us (at, a, c, parts, token, (at2, u, v, parts2, token2, (body, m, n, parts3, is, (y_is, n_is)))) =
-    (([], body), inr (inl (at, a, c, parts, token, (at2, u, v, parts2, token2, (body, m, n, parts3, is, (refl, n_is))))),
-     y_is ∙ ap (λ z. s.If z body) (sym (append-nil arms)))
+otherwise_as elif rb arms y us (at, a, c, parts, token, (at2, u, v, parts2, token2, (body, m, n, parts3, is, (y_is, n_is)))) = (
+  ([], body),
+  inr (inl (at, a, c, parts, token, (at2, u, v, parts2, token2, (body, m, n, parts3, is, (refl, n_is))))),
+  y_is ∙ ap (λ z. s.If z body) (sym (append-nil arms)),
+)
 
 otherwise_follow : (depth : ℕ) (elif : Grammar (Arms × List Stmt)) (rb : Grammar (List Stmt)) (block : Parser (List Stmt))
     → ((ts : Lexemes) → Follows rb (N k.Block depth ∷ []) ts (block ts)) → (arms : Arms) (ts : Lexemes) → kind ts ≡ t.Else
@@ -150,16 +152,18 @@ tail_last arms ts =
 
 elif_as : (depth : ℕ) (rb : Grammar (List Stmt)) (rt : Grammar (Arms × List Stmt)) (arms : Arms) (y : Stmt) (us : Lexemes)
     → (g.arm t.Elif depth rb >>= (λ x. Tailed rt (arms ++ x ∷ []))) y us → Tailed (g.elif_with depth rb rt) arms y us
-elif_as depth rb rt arms y us (x, a, c, parts, is, (r, are, y_is)) =
-    ((x ∷ r.0, r.1), (x, a, c, parts, is, (r, c, [], sym (append-nil c), are, (refl, refl))),
-     y_is ∙ ap (λ z. s.If z r.1) (append_assoc arms (x ∷ []) r.0))
+elif_as depth rb rt arms y us (x, a, c, parts, is, (r, are, y_is)) = (
+  (x ∷ r.0, r.1),
+  (x, a, c, parts, is, (r, c, [], sym (append-nil c), are, (refl, refl))),
+  y_is ∙ ap (λ z. s.If z r.1) (append_assoc arms (x ∷ []) r.0),
+)
 
 elif_follow : (depth : ℕ) (rb : Grammar (List Stmt)) (rt : Grammar (Arms × List Stmt)) (block : Parser (List Stmt)) (tail : Arms → Parser Stmt)
     → ((ts : Lexemes) → Follows rb (N k.Block depth ∷ []) ts (block ts))
     → ((arms : Arms) (ts : Lexemes) → Follows (Tailed rt arms) (N k.Tail depth ∷ []) ts (tail arms ts))
     → (arms : Arms) (ts : Lexemes) → kind ts ≡ t.Elif
     → Follows (Tailed (g.elif_with depth rb rt) arms) (T t.Elif ∷ N k.Expr depth ∷ T t.Colon ∷ N k.Block depth ∷ N k.Tail depth ∷ []) ts
-      (b.elif_with depth block tail arms ts)
+    (b.elif_with depth block tail arms ts)
 unfolding b.elif_with
 elif_follow depth rb rt block tail hb ht arms ts is =
     weaken (λ y us. elif_as depth rb rt arms y us)
@@ -172,7 +176,7 @@ tail_open : (depth : ℕ) (rb : Grammar (List Stmt)) (rt : Grammar (Arms × List
     → ((ts : Lexemes) → Follows rb' (N k.Block (suc depth) ∷ []) ts (block' ts))
     → (arms : Arms) (ts : Lexemes)
     → Follows (Tailed (g.tail_with (g.elif_with depth rb rt) rb') arms) (N k.Tail (suc depth) ∷ []) ts
-      (b.tail_with (Some (b.elif_with depth block tail)) block' arms ts)
+    (b.tail_with (Some (b.elif_with depth block tail)) block' arms ts)
 unfolding b.tail_with
 tail_open depth rb rt block tail rb' block' hb ht hb' arms ts =
     tail_by_follow (suc depth) (g.elif_with depth rb rt) (Some (b.elif_with depth block tail)) rb' block' hb' arms ts (kind ts) refl
@@ -231,7 +235,7 @@ inner_follow depth h ts = stmt_with_follow depth (g.block depth) (g.tail depth) 
 
 outer_block : (depth : ℕ) → Blocks depth → (ts : Lexemes)
     → Follows (g.block_with (suc depth) (g.stmt_with depth (g.block depth) (g.tail depth))) (N k.Block (suc depth) ∷ []) ts
-      (b.block_with (suc depth) (Some (b.stmt_with depth (b.block depth) (b.tail depth))) ts)
+    (b.block_with (suc depth) (Some (b.stmt_with depth (b.block depth) (b.tail depth))) ts)
 outer_block depth h ts =
     block_open depth (g.stmt_with depth (g.block depth) (g.tail depth)) (b.stmt_with depth (b.block depth) (b.tail depth))
     (λ x us. stmt_some depth (g.block depth) (g.tail depth) x us) (inner_follow depth h) ts

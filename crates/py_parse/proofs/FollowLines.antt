@@ -51,9 +51,14 @@ stored_by_follow depth target ts kind' is = augmented_follow depth target ts (au
 targeted : {B : Type 0} (depth : ℕ) (F : Expr → Grammar B) (y : B) (ts : Lexemes)
     → (g.name >>= (λ first. g.many (g.trailer_at depth (g.inside depth)) >>= (λ more. F (trailed (e.Name first) more)))) y ts
     → (g.target depth >>= F) y ts
-targeted depth F y ts (first, a, c, parts, named, (more, u, v, parts2, are, after)) =
-    (trailed (e.Name first) more, a ++ u, v, parts ∙ (ap (λ z. a ++ z) parts2 ∙ sym (append_assoc a u v)),
-     (first, a, u, refl, named, (more, u, [], sym (append-nil u), are, (refl, refl))), after)
+targeted depth F y ts (first, a, c, parts, named, (more, u, v, parts2, are, after)) = (
+  trailed (e.Name first) more,
+  a ++ u,
+  v,
+  parts ∙ (ap (λ z. a ++ z) parts2 ∙ sym (append_assoc a u v)),
+  (first, a, u, refl, named, (more, u, [], sym (append-nil u), are, (refl, refl))),
+  after,
+)
 
 -- an expression alone, or an assignment
 simple_target : (depth : ℕ) (y : Stmt) (ts : Lexemes) → (g.target depth >>= Stored depth) y ts → g.simple depth y ts
@@ -64,8 +69,8 @@ simple_target depth y ts (x, a, c, parts, is, inr (inr h)) = inr (inr (inr (inr 
 -- behind the name
 stored_rest : (depth : ℕ) (first : Name) (ts : Lexemes)
     → Follows (g.many (g.trailer_at depth (g.inside depth)) >>= (λ more. Stored depth (trailed (e.Name first) more)))
-      (N k.Trailers depth ∷ N k.Stored depth ∷ []) ts
-      (and_then (d.trailers (d.inside depth) ts) (λ more us. b.stored_by (d.expr depth) (trailed (e.Name first) more) (place us) (kind us) us))
+    (N k.Trailers depth ∷ N k.Stored depth ∷ []) ts
+    (and_then (d.trailers (d.inside depth) ts) (λ more us. b.stored_by (d.expr depth) (trailed (e.Name first) more) (place us) (kind us) us))
 stored_rest depth first ts =
     go_on (trailers_follow depth ts) (λ more us _. stored_by_follow depth (trailed (e.Name first) more) us (kind us) refl)
 

@@ -56,7 +56,7 @@ imported_some x ts (inr (at, a, c, parts, token, after)) = begun a c ts parts to
 
 defined_follow : (depth : ℕ) (ts : Lexemes) → kind ts ≡ t.Def
     → Follows (g.defined depth)
-      (T t.Def ∷ T t.Name ∷ T t.OpenParen ∷ N (k.More k.Param) depth ∷ T t.CloseParen ∷ T t.Colon ∷ N k.Block depth ∷ []) ts (b.defined depth ts)
+    (T t.Def ∷ T t.Name ∷ T t.OpenParen ∷ N (k.More k.Param) depth ∷ T t.CloseParen ∷ T t.Colon ∷ N k.Block depth ∷ []) ts (b.defined depth ts)
 unfolding b.defined
 defined_follow depth ts is =
     took (take is (λ e. absurd cc)) (go_on (named (next ts)) (λ called us _.
@@ -78,7 +78,7 @@ weighed_fate depth a ts (Err rest) h = h
 
 function_follow : (depth : ℕ) (ts : Lexemes) → kind ts ≡ t.Def
     → Follows (g.function depth)
-      (T t.Def ∷ T t.Name ∷ T t.OpenParen ∷ N (k.More k.Param) depth ∷ T t.CloseParen ∷ T t.Colon ∷ N k.Block depth ∷ []) ts (b.function depth ts)
+    (T t.Def ∷ T t.Name ∷ T t.OpenParen ∷ N (k.More k.Param) depth ∷ T t.CloseParen ∷ T t.Colon ∷ N k.Block depth ∷ []) ts (b.function depth ts)
 unfolding b.function
 function_follow depth ts is = record { fate = weighed_fate depth _ ts (b.defined depth ts) (defined_follow depth ts is).fate }
 
@@ -95,27 +95,38 @@ Gathers depth found = λ all us.
 gathers_none : (depth : ℕ) (found all : Halves) (us : Lexemes) → g.gives found all us → Gathers depth found all us
 gathers_none depth found all us (all_is, us_is) =
     let same : found ≡ (found.0 ++ [], found.1 ++ []) =
-        ap (λ z. (z, found.1)) (sym (append-nil found.0)) ∙ ap (λ z. (found.0 ++ [], z)) (sym (append-nil found.1)) in
+    ap (λ z. (z, found.1)) (sym (append-nil found.0)) ∙ ap (λ z. (found.0 ++ [], z)) (sym (append-nil found.1)) in
     ([], us_is, all_is ∙ same)
 
 gathers_import : (depth : ℕ) (found all : Halves) (us : Lexemes)
     → (g.imported >>= (λ x. Gathers depth (found.0 ++ x ∷ [], found.1))) all us → Gathers depth found all us
-gathers_import depth found all us (x, a, c, parts, is, (xs, are, all_is)) =
-    (Imported x ∷ xs, (a, c, parts, inl (x, a, [], sym (append-nil a), is, (refl, refl)), are),
-     all_is ∙ ap (λ z. (z, found.1 ++ functions_of xs)) (append_assoc found.0 (x ∷ []) (imports_of xs)))
+gathers_import depth found all us (x, a, c, parts, is, (xs, are, all_is)) = (
+  Imported x ∷ xs,
+  (a, c, parts, inl (x, a, [], sym (append-nil a), is, (refl, refl)), are),
+  all_is ∙ ap (λ z. (z, found.1 ++ functions_of xs)) (append_assoc found.0 (x ∷ []) (imports_of xs)),
+)
 
 gathers_function : (depth : ℕ) (found all : Halves) (us : Lexemes)
     → (g.function depth >>= (λ x. Gathers depth (found.0, found.1 ++ x ∷ []))) all us → Gathers depth found all us
-gathers_function depth found all us (x, a, c, parts, is, (xs, are, all_is)) =
-    (Defined x ∷ xs, (a, c, parts, inr (inl (x, a, [], sym (append-nil a), is, (refl, refl))), are),
-     all_is ∙ ap (λ z. (found.0 ++ imports_of xs, z)) (append_assoc found.1 (x ∷ []) (functions_of xs)))
+gathers_function depth found all us (x, a, c, parts, is, (xs, are, all_is)) = (
+  Defined x ∷ xs,
+  (a, c, parts, inr (inl (x, a, [], sym (append-nil a), is, (refl, refl))), are),
+  all_is ∙ ap (λ z. (found.0 ++ imports_of xs, z)) (append_assoc found.1 (x ∷ []) (functions_of xs)),
+)
 
 gathers_text : (depth : ℕ) (found all : Halves) (us : Lexemes)
     → (do _ ← g.token t.Text; _ ← g.token t.Newline; Gathers depth found) all us → Gathers depth found all us
-gathers_text depth found all us (at, a, c, parts, token, (at2, u, v, parts2, token2, (xs, are, all_is))) =
-    (Said ∷ xs,
-     (a ++ u, v, parts ∙ (ap (λ z. a ++ z) parts2 ∙ sym (append_assoc a u v)),
-      inr (inr (at, a, u, refl, token, (at2, u, [], sym (append-nil u), token2, (refl, refl)))), are), all_is)
+gathers_text depth found all us (at, a, c, parts, token, (at2, u, v, parts2, token2, (xs, are, all_is))) = (
+  Said ∷ xs,
+  (
+    a ++ u,
+    v,
+    parts ∙ (ap (λ z. a ++ z) parts2 ∙ sym (append_assoc a u v)),
+    inr (inr (at, a, u, refl, token, (at2, u, [], sym (append-nil u), token2, (refl, refl)))),
+    are,
+  ),
+  all_is,
+)
 
 next_le : (ts : Lexemes) → length (next ts) ≤ length ts
 next_le [] = omega arith
