@@ -61,6 +61,11 @@ go_on {a = a} {b = b} {ts = ts} {o = Err rest} h k = record {
       let first = h.fate (b ++ K) in (first.0, ap (λ z. run first.0 z ts) (append_assoc a b K) ∙ first.1);
 }
 
+-- the same, where the first is known to read
+pub took : {A B : Type 0} {R : Grammar A} {S : A → Grammar B} {a b : Stack} {ts us : Lexemes} {x : A} {o : Outcome B}
+    → Follows R a ts (Ok (x, us)) → Follows (S x) b us o → Follows (R >>= S) (a ++ b) ts o
+took {R = R} {S = S} {a = a} {b = b} {ts = ts} {us = us} {x = x} {o = o} h k = record { fate = glue R S a b ts us x o h.fate k.fate }
+
 pub done : {A : Type 0} {ts : Lexemes} (x : A) → Follows (g.gives x) [] ts (Ok (x, ts))
 done {ts = ts} x = record { fate = record { used = []; parts = refl; is = (refl, refl); leads = λ K. record { by = λ n. (n, refl) } } }
 
@@ -81,6 +86,20 @@ weaken_fate R R' a ts (Err rest) w h = h
 pub weaken : {A : Type 0} {R R' : Grammar A} {a : Stack} {ts : Lexemes} {o : Outcome A}
     → ((x : A) (us : Lexemes) → R x us → R' x us) → Follows R a ts o → Follows R' a ts o
 weaken {R = R} {R' = R'} {a = a} {ts = ts} {o = o} w h = record { fate = weaken_fate R R' a ts o w h.fate }
+
+-- the value that another rule makes of it
+made_fate : {A B : Type 0} (R : Grammar A) (R' : Grammar B) (f : A → B) (a : Stack) (ts : Lexemes) (o : Outcome A)
+    → ((x : A) (us : Lexemes) → R x us → R' (f x) us) → Fate R a ts o → Fate R' a ts (and_then o (λ x us. Ok (f x, us)))
+made_fate R R' f a ts (Ok q) w h = record { used = h.used; parts = h.parts; is = w q.0 h.used h.is; leads = h.leads }
+made_fate R R' f a ts (Err rest) w h = h
+
+pub made : {A B : Type 0} {R : Grammar A} {R' : Grammar B} {a : Stack} {ts : Lexemes} {o : Outcome A} (f : A → B)
+    → ((x : A) (us : Lexemes) → R x us → R' (f x) us) → Follows R a ts o → Follows R' a ts (and_then o (λ x us. Ok (f x, us)))
+made {R = R} {R' = R'} {a = a} {ts = ts} {o = o} f w h = record { fate = made_fate R R' f a ts o w h.fate }
+
+-- what stands for no lexemes
+pub nothing : {A : Type 0} {R : Grammar A} {ts : Lexemes} (x : A) → R x [] → Follows R [] ts (Ok (x, ts))
+nothing x r = record { fate = record { used = []; parts = refl; is = r; leads = λ K. record { by = λ n. (n, refl) } } }
 
 -- an outcome that is the same
 pub alike : {A : Type 0} {R : Grammar A} {a : Stack} {ts : Lexemes} {o o' : Outcome A} → o ≡ o' → Follows R a ts o → Follows R a ts o'
@@ -196,6 +215,39 @@ pub named : (ts : Lexemes) → Follows g.name (T t.Name ∷ []) ts (p.name ts)
 unfolding p.name
 named ts = name_by ts (same (kind ts) t.Name) refl
 
--- a number whose place is asked for no more
-pub Value : Grammar ℤ
-Value = g.number >>= (λ n. g.gives n.0)
+-- a value made of a number whose place is asked for no more
+numbered_by : {B : Type 0} (f : ℤ → B) (ts : Lexemes) (b : Bool) → same (kind ts) t.Number ≡ b
+    → Follows (g.number >>= (λ n. g.gives (f n.0))) (T t.Number ∷ []) ts
+      (and_then (if b then Ok (pos (value_of (spelling ts)), next ts) else Err ts) (λ n us. Ok (f n, us)))
+unfolding same
+numbered_by f ts true e = ending (λ n. f n.0) (take_number (same_true the_type tt (kind ts) t.Number e))
+numbered_by f ts false e = record { fate = λ K. refused_token ts t.Number K e }
+
+pub numbered : {B : Type 0} (f : ℤ → B) (ts : Lexemes)
+    → Follows (g.number >>= (λ n. g.gives (f n.0))) (T t.Number ∷ []) ts (and_then (p.number ts) (λ n us. Ok (f n, us)))
+unfolding p.number
+numbered f ts = numbered_by f ts (same (kind ts) t.Number) refl
+
+-- ---- how much is left
+
+pub no_longer : {A : Type 0} {R : Grammar A} {a : Stack} {ts us : Lexemes} {x : A} → Takes R a ts x us → length us ≤ length ts
+no_longer {ts = ts} {us = us} h = let e = ap length h.parts ∙ length-append h.used us in omega arith
+
+-- the lexemes that a rule takes are one at least
+pub shorter : {A : Type 0} {R : Grammar A} {a : Stack} {ts us : Lexemes} {x : A} (h : Takes R a ts x us) → 0 < length h.used → length us < length ts
+shorter {ts = ts} {us = us} h some = let e = ap length h.parts ∙ length-append h.used us in omega arith
+
+pub behind_token : {k : Terminal} {a : Stack} {ts us : Lexemes} {at : Loc} → Takes (g.token k) a ts at us → length us < length ts
+behind_token h = shorter h (let e = ap length h.is.1 in omega arith)
+
+pub behind_operator : {A : Type 0} {table : Terminal → Option A} {a : Stack} {ts us : Lexemes} {x : A × Loc} → Takes (g.operator table) a ts x us → length us < length ts
+behind_operator h = shorter h (let e = ap length h.is.2.1 in omega arith)
+
+-- a rule that begins with a terminal has one lexeme at least
+pub begun : {k : Terminal} {at : Loc} (a b us : Lexemes) → us ≡ a ++ b → g.token k at a → 0 < length us
+begun a b us parts (text, is) = let e = ap length parts ∙ length-append a b in let f = ap length is in omega arith
+
+-- a rule and no more
+pub alone : {A : Type 0} (R : Grammar A) (y : A) (us : Lexemes) → (R >>= (λ x. g.gives x)) y us → R y us
+alone R y us (x, a, b, parts, isx, (y_is, none)) =
+    subst (λ z. R z us) (sym y_is) (subst (λ z. R x z) (sym (parts ∙ (ap (λ z. a ++ z) none ∙ append-nil a))) isx)

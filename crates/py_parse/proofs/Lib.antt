@@ -5,3 +5,9 @@ pub mod ReadBrackets
 pub mod ReadTrailers
 pub mod ReadOperand
 pub mod ReadExpr
+pub mod FollowLists
+pub mod FollowOperand
+pub mod FollowExpr
+pub mod FollowLines
+pub mod FollowBlocks
+pub mod FollowModules
