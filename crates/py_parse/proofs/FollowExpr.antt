@@ -1,5 +1,5 @@
 -- Expressions follow their rules: operators of each level, comparisons, `not`, `and` and `or`.
-use Rattle.std.proofs.Common.{◌≡◌, ℕ, zero, suc, ◌+◌, ◌-◌, ◌≤◌, ◌<◌, ◌==◌, Bool, true, false, List, [], ◌∷◌, ◌++◌, length, Option, Some, None, Ok, Err, inl, inr, refl, ap, sym, subst, ◌∙◌, append_assoc, arith, if◌then◌else◌}
+use Rattle.std.proofs.Common.{◌≡◌, ℕ, zero, suc, ◌≤◌, ◌<◌, ◌==◌, Bool, true, false, List, [], ◌∷◌, ◌++◌, length, Option, Some, None, inl, inr, refl, ap, sym, ◌∙◌, append_assoc, arith, if◌then◌else◌}
 use Rattle.std.proofs.lemmas.List.{append-nil}
 use denote.Enum.Bare.{same_true}
 use Rattle.krn_base.specs.declared.place.Loc.{Loc}
@@ -9,8 +9,7 @@ use Rattle.py_parse.specs.declared.terminal.Terminal.{Terminal}
 use Rattle.py_parse.specs.declared.terminal.Terminal.TheVariants as t
 use Rattle.py_parse.specs.declared.tree.Expr.{Expr}
 use Rattle.py_parse.specs.declared.tree.Expr.TheVariants as e
-use Rattle.py_parse.specs.declared.tree.Trailer.{Trailer}
-use Rattle.py_parse.specs.Lexemes.{Lexeme, Lexemes, same}
+use Rattle.py_parse.specs.Lexemes.{Lexemes, same}
 use Rattle.py_parse.specs.Trees.{binary, level, operator_at, levels_of_operators, comparison, chained, joined}
 use Rattle.py_parse.specs.Parser as p
 use Rattle.py_parse.specs.Parser.{Outcome, Parser, and_then, kind, place, next}
@@ -20,7 +19,7 @@ use Rattle.py_parse.specs.Grammar as g
 use Rattle.py_parse.specs.Grammar.{Grammar, ◌>>=◌, ◌∣◌}
 use Rattle.py_parse.specs.Stack as s
 use Rattle.py_parse.specs.Stack.{Symbol, Stack, Rule, T, N, row, with_operator}
-use Rattle.py_parse.proofs.Follows.{Follows, Takes, go_on, done, ending, weaken, rule_by, no_row, take, take_operator, no_longer, behind_token, behind_operator, alone}
+use Rattle.py_parse.proofs.Follows.{Follows, go_on, done, ending, weaken, rule_by, no_row, take, take_operator, no_longer, behind_token, behind_operator, alone}
 use Rattle.py_parse.proofs.FollowLists.{Adds, from_none, no_more}
 use Rattle.py_parse.proofs.FollowOperand.{Inside, unary_follows, trailers_at}
 

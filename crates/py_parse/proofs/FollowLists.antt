@@ -1,15 +1,15 @@
 -- Lists follow their rules: those with commas, those up to a closing terminal, and those that a loop gathers.
-use Rattle.std.proofs.Common.{◌≡◌, ℕ, zero, suc, ◌+◌, ◌≤◌, ◌<◌, Bool, true, false, List, [], ◌∷◌, ◌++◌, length, Option, Some, None, Ok, Err, inl, inr, refl, ap, sym, subst, ◌∙◌, append_assoc, length-append, arith, if◌then◌else◌}
+use Rattle.std.proofs.Common.{◌≡◌, ℕ, zero, suc, ◌<◌, Bool, true, false, List, [], ◌∷◌, ◌++◌, length, Some, Ok, inl, inr, refl, ap, sym, subst, ◌∙◌, append_assoc, arith, if◌then◌else◌}
 use Rattle.std.proofs.lemmas.List.{append-nil}
 use Rattle.krn_base.specs.declared.place.Loc.{Loc}
 use Rattle.py_parse.specs.declared.terminal.Terminal.{Terminal}
 use Rattle.py_parse.specs.declared.terminal.Terminal.TheVariants as t
-use Rattle.py_parse.specs.Lexemes.{Lexeme, Lexemes, same}
+use Rattle.py_parse.specs.Lexemes.{Lexemes, same}
 use Rattle.py_parse.specs.Parser as p
 use Rattle.py_parse.specs.Parser.{Outcome, Parser, and_then, kind, place, next}
 use Rattle.py_parse.specs.Grammar as g
 use Rattle.py_parse.specs.Grammar.{Grammar, ◌>>=◌}
-use Rattle.py_parse.specs.Stack.{Symbol, Stack, Rule, T, N, Item, Items, More, Comma, Stmt, Stmts, row, close_of, item_symbol}
+use Rattle.py_parse.specs.Stack.{Stack, N, Item, Items, More, Comma, Stmt, Stmts, row, close_of, item_symbol}
 use Rattle.py_parse.proofs.Follows.{Follows, Takes, go_on, done, weaken, rule_by, take, no_longer, shorter, behind_token}
 
 -- a list that begins with the items that were found

@@ -1,5 +1,5 @@
 -- Operands follow their rules: subscripts, arguments, trailers, atoms, powers and signs.
-use Rattle.std.proofs.Common.{◌≡◌, ℕ, zero, suc, ◌+◌, ◌≤◌, ◌<◌, Bool, true, false, List, [], ◌∷◌, ◌++◌, length, Option, Some, None, Ok, Err, inl, inr, refl, ap, sym, subst, ◌∙◌, arith}
+use Rattle.std.proofs.Common.{◌≡◌, ℕ, zero, suc, ◌≤◌, ◌<◌, true, false, List, [], ◌∷◌, ◌++◌, length, Option, Some, None, inl, inr, refl, ap, ◌∙◌, arith}
 use Rattle.krn_base.specs.declared.place.Loc.{Loc}
 use Rattle.py_parse.specs.declared.terminal.Terminal.{Terminal}
 use Rattle.py_parse.specs.declared.terminal.Terminal.TheVariants as t
@@ -10,16 +10,16 @@ use Rattle.py_parse.specs.declared.tree.Trailer.TheVariants as trailer
 use Rattle.py_parse.specs.declared.tree.Arg.{Arg, roll-Arg}
 use Rattle.py_parse.specs.declared.tree.Sub.{Sub}
 use Rattle.py_parse.specs.declared.tree.Sub.TheVariants as sub
-use Rattle.py_parse.specs.Lexemes.{Lexeme, Lexemes}
+use Rattle.py_parse.specs.Lexemes.{Lexemes}
 use Rattle.py_parse.specs.Trees.{sign, trailed}
-use Rattle.py_parse.specs.Parser.{Outcome, Parser, and_then, kind, place, next}
+use Rattle.py_parse.specs.Parser.{Parser, kind, place}
 use Rattle.py_parse.specs.Descent as d
 use Rattle.py_parse.specs.Descent.{Inner}
 use Rattle.py_parse.specs.Grammar as g
 use Rattle.py_parse.specs.Grammar.{Grammar, ◌>>=◌, ◌∣◌}
 use Rattle.py_parse.specs.Stack as s
 use Rattle.py_parse.specs.Stack.{Symbol, Stack, Rule, T, N, row, signed_row}
-use Rattle.py_parse.proofs.Follows.{Follows, Takes, go_on, done, ending, weaken, made, nothing, rule_by, no_row, take, take_name, take_number, take_operator, expected, named, numbered, shorter, begun, alone}
+use Rattle.py_parse.proofs.Follows.{Follows, go_on, done, ending, weaken, made, nothing, rule_by, no_row, take, take_name, take_number, take_operator, expected, named, numbered, shorter, begun, alone}
 use Rattle.py_parse.proofs.FollowLists.{Adds, from_none, no_more, one_more, some_items, listed_items, more_follows}
 
 -- ---- what stands one level further in
