@@ -1,0 +1,2 @@
+-- plain
+use Rattle.std.proofs.Common.{◌≡◌}
