@@ -8,6 +8,7 @@ use Rattle.py_parse.specs.declared.terminal.Terminal.TheVariants as t
 use Rattle.py_parse.specs.Lexemes.{Lexeme, Lexemes, same}
 use Rattle.py_parse.specs.Parser.{kind, next}
 use Rattle.py_parse.specs.Stack.{Symbol, Stack, Rule, T, N, row, run, by_row, Verdict, Accepted, Refused, Unfinished, RefusedAt}
+use Rattle.py_parse.proofs.Follows.{Leads}
 
 pub same_self : (k : Terminal) → same k k ≡ true
 unfolding same
@@ -151,33 +152,41 @@ refused_again (suc n) (N rule d ∷ stack) (x ∷ u) b r r' e =
     on_row (row rule d x.kind) (λ s. run n (s ++ stack) (x ∷ (u ++ b ∷ r))) (λ s. run n (s ++ stack) (x ∷ (u ++ b ∷ r'))) x u (b ∷ r) (b ∷ r')
     (λ s. refused_again n (s ++ stack) (x ∷ u) b r r') e
 
+-- no lexemes that begin up to the refused one are accepted
+pub no_longer : (stack : Stack) (u : Lexemes) (b : Lexeme) (r r' : Lexemes) → RefusedAt stack (u ++ b ∷ r) (b ∷ r) → Accepts stack (u ++ b ∷ r') → ⊥
+no_longer stack u b r r' h accepts =
+    not_both stack (u ++ b ∷ r') (b ∷ r') accepts (h.0, refused_again h.0 stack u b r r' h.1)
+
 -- ---- from one stack and lexemes to others
 
-pub record Reaches (stack : Stack) (ts : Lexemes) (stack' : Stack) (ts' : Lexemes) : Type 0 where
-  pub by : (n : ℕ) → (j : ℕ) × (run j stack ts ≡ run n stack' ts')
-
-pub stay : {K : Stack} {ts : Lexemes} → Reaches K ts K ts
+pub stay : {K : Stack} {ts : Lexemes} → Leads K ts K ts
 stay = record { by = λ n. (n, refl) }
 
-pub then_on : {K L M : Stack} {ts us vs : Lexemes} → Reaches K ts L us → Reaches L us M vs → Reaches K ts M vs
-then_on {K = K} {ts = ts} h k = record { by = λ n.
-    let second = k.by n in let first = h.by second.0 in (first.0, first.1 ∙ second.1) }
+pub then_on : {K L M : Stack} {ts us vs : Lexemes} → Leads K ts L us → Leads L us M vs → Leads K ts M vs
+then_on {K = K} {ts = ts} h k = record {
+  by = λ n.
+      let second = k.by n in let first = h.by second.0 in (first.0, first.1 ∙ second.1);
+}
 
 -- by the row of a rule
 pub expand : {rule : Rule} {d : ℕ} {K L : Stack} {ts us : Lexemes} (s : Stack) → row rule d (kind ts) ≡ Some s
-    → Reaches (s ++ K) ts L us → Reaches (N rule d ∷ K) ts L us
-expand {K = K} {ts = ts} s e h = record { by = λ n.
-    let first = h.by n in (suc first.0, ap (λ z. by_row z (λ symbols. run first.0 (symbols ++ K) ts) ts) e ∙ first.1) }
+    → Leads (s ++ K) ts L us → Leads (N rule d ∷ K) ts L us
+expand {K = K} {ts = ts} s e h = record {
+  by = λ n.
+      let first = h.by n in (suc first.0, ap (λ z. by_row z (λ symbols. run first.0 (symbols ++ K) ts) ts) e ∙ first.1);
+}
 
 -- a rule that takes nothing
-pub skip : {rule : Rule} {d : ℕ} {K : Stack} {ts : Lexemes} → row rule d (kind ts) ≡ Some [] → Reaches (N rule d ∷ K) ts K ts
+pub skip : {rule : Rule} {d : ℕ} {K : Stack} {ts : Lexemes} → row rule d (kind ts) ≡ Some [] → Leads (N rule d ∷ K) ts K ts
 skip e = expand [] e stay
 
-pub eat : {k : Terminal} {K L : Stack} {x : Lexeme} {ts us : Lexemes} → x.kind ≡ k → Reaches K ts L us → Reaches (T k ∷ K) (x ∷ ts) L us
-eat {k = k} {K = K} {x = x} {ts = ts} e h = record { by = λ n.
-    let first = h.by n in
-    let is : same x.kind k ≡ true = ap (λ z. same z k) e ∙ same_self k in
-    (suc first.0, ap (λ (b : Bool). if b then run first.0 K ts else Refused (x ∷ ts)) is ∙ first.1) }
+pub eat : {k : Terminal} {K L : Stack} {x : Lexeme} {ts us : Lexemes} → x.kind ≡ k → Leads K ts L us → Leads (T k ∷ K) (x ∷ ts) L us
+eat {k = k} {K = K} {x = x} {ts = ts} e h = record {
+  by = λ n.
+      let first = h.by n in
+      let is : same x.kind k ≡ true = ap (λ z. same z k) e ∙ same_self k in
+      (suc first.0, ap (λ (b : Bool). if b then run first.0 K ts else Refused (x ∷ ts)) is ∙ first.1);
+}
 
-pub accepts_on : {K L : Stack} {ts us : Lexemes} → Reaches K ts L us → Accepts L us → Accepts K ts
+pub accepts_on : {K L : Stack} {ts us : Lexemes} → Leads K ts L us → Accepts L us → Accepts K ts
 accepts_on h a = let first = h.by a.0 in (first.0, first.1 ∙ a.1)

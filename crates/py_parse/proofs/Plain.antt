@@ -6,7 +6,8 @@ use Rattle.py_parse.specs.Lexemes.{Lexeme, Lexemes, same}
 use Rattle.py_parse.specs.Parser.{kind, next}
 use Rattle.py_parse.specs.Trees.{operator_at, comparison, augmented, sign, binary, level}
 use Rattle.py_parse.specs.Stack.{Symbol, Stack, Rule, T, N, Item, Param, Value, Element, Argument, Subscript, Expr, Ors, Conjunction, Ands, Inverted, Compared, Comparison, Chain, Links, Unary, Power, Exponent, Primary, Atom, Parenthesis, Trailers, Arg, Keyed, Subscripted, Sliced, Cut, Bound, Step, Items, More, Comma, Simple, Stored, Line, Block, Indented, Stmts, Stmt, Tail, Alias, Parts, row, deeper, with_operator, signed_row, close_of, item_symbol, run, by_row, Verdict, Accepted, Refused, Unfinished, RefusedAt}
-use Rattle.py_parse.proofs.Machine.{same_self, one_kind, Accepts, EndsWith, refused_same, too_soon, Reaches, stay, then_on, expand, skip, eat, accepts_on}
+use Rattle.py_parse.proofs.Follows.{Leads}
+use Rattle.py_parse.proofs.Machine.{same_self, one_kind, Accepts, EndsWith, refused_same, too_soon, stay, then_on, expand, skip, eat, accepts_on}
 
 -- ---- plain completions
 
@@ -408,90 +409,110 @@ no_link n d f s is = ap (λ o. with_operator o s) is
 stops : (f : Terminal) → closes f ≡ true → Stops f
 unfolding operator_at
 stops t.CloseParen c = record {
-  ors = λ d. refl; ands = λ d. refl; comparison = λ d. refl; exponent = λ d. refl; trailers = λ d. refl;
-  links = λ n d. no_link n d t.CloseParen _ (either (0 == suc n) None) }
+  ors = λ d. refl;
+  ands = λ d. refl;
+  comparison = λ d. refl;
+  exponent = λ d. refl;
+  trailers = λ d. refl;
+  links = λ n d. no_link n d t.CloseParen _ (either (0 == suc n) None);
+}
 stops t.CloseBracket c = record {
-  ors = λ d. refl; ands = λ d. refl; comparison = λ d. refl; exponent = λ d. refl; trailers = λ d. refl;
-  links = λ n d. no_link n d t.CloseBracket _ (either (0 == suc n) None) }
+  ors = λ d. refl;
+  ands = λ d. refl;
+  comparison = λ d. refl;
+  exponent = λ d. refl;
+  trailers = λ d. refl;
+  links = λ n d. no_link n d t.CloseBracket _ (either (0 == suc n) None);
+}
 stops t.Newline c = record {
-  ors = λ d. refl; ands = λ d. refl; comparison = λ d. refl; exponent = λ d. refl; trailers = λ d. refl;
-  links = λ n d. no_link n d t.Newline _ (either (0 == suc n) None) }
+  ors = λ d. refl;
+  ands = λ d. refl;
+  comparison = λ d. refl;
+  exponent = λ d. refl;
+  trailers = λ d. refl;
+  links = λ n d. no_link n d t.Newline _ (either (0 == suc n) None);
+}
 stops t.Colon c = record {
-  ors = λ d. refl; ands = λ d. refl; comparison = λ d. refl; exponent = λ d. refl; trailers = λ d. refl;
-  links = λ n d. no_link n d t.Colon _ (either (0 == suc n) None) }
+  ors = λ d. refl;
+  ands = λ d. refl;
+  comparison = λ d. refl;
+  exponent = λ d. refl;
+  trailers = λ d. refl;
+  links = λ n d. no_link n d t.Colon _ (either (0 == suc n) None);
+}
 stops _ c = absurd cc
 
 abbrev a_name : Lexemes → Lexemes
 a_name ts = plain_lexeme t.Name ∷ ts
 
-primary_eats : (e d : ℕ) (K : Stack) (ts : Lexemes) → closes (kind ts) ≡ true → Reaches (N (Primary e) d ∷ K) (a_name ts) K ts
+primary_eats : (e d : ℕ) (K : Stack) (ts : Lexemes) → closes (kind ts) ≡ true → Leads (N (Primary e) d ∷ K) (a_name ts) K ts
 primary_eats e d K ts c =
     expand (N (Atom e) d ∷ N Trailers d ∷ []) refl (expand (T t.Name ∷ []) refl (eat refl (skip ((stops (kind ts) c).trailers d))))
 
-unary_eats : (e d : ℕ) (K : Stack) (ts : Lexemes) → closes (kind ts) ≡ true → Reaches (N (Unary e) d ∷ K) (a_name ts) K ts
+unary_eats : (e d : ℕ) (K : Stack) (ts : Lexemes) → closes (kind ts) ≡ true → Leads (N (Unary e) d ∷ K) (a_name ts) K ts
 unary_eats e d K ts c =
     expand (N (Power e) d ∷ []) refl (expand (N (Primary e) d ∷ N Exponent d ∷ []) refl
     (then_on (primary_eats e d (N Exponent d ∷ K) ts c) (skip ((stops (kind ts) c).exponent d))))
 
-chain_eats : (n e d : ℕ) (K : Stack) (ts : Lexemes) → closes (kind ts) ≡ true → Reaches (N (Chain n e) d ∷ K) (a_name ts) K ts
+chain_eats : (n e d : ℕ) (K : Stack) (ts : Lexemes) → closes (kind ts) ≡ true → Leads (N (Chain n e) d ∷ K) (a_name ts) K ts
 chain_eats zero e d K ts c = expand (N (Unary e) d ∷ []) refl (unary_eats e d K ts c)
 chain_eats (suc n) e d K ts c =
     expand (N (Chain n e) d ∷ N (Links n) d ∷ []) refl
     (then_on (chain_eats n e d (N (Links n) d ∷ K) ts c) (skip ((stops (kind ts) c).links n d)))
 
-compared_eats : (e d : ℕ) (K : Stack) (ts : Lexemes) → closes (kind ts) ≡ true → Reaches (N (Compared e) d ∷ K) (a_name ts) K ts
+compared_eats : (e d : ℕ) (K : Stack) (ts : Lexemes) → closes (kind ts) ≡ true → Leads (N (Compared e) d ∷ K) (a_name ts) K ts
 compared_eats e d K ts c =
     expand (N (Chain 6 e) d ∷ N Comparison d ∷ []) refl
     (then_on (chain_eats 6 e d (N Comparison d ∷ K) ts c) (skip ((stops (kind ts) c).comparison d)))
 
-inverted_eats : (e d : ℕ) (K : Stack) (ts : Lexemes) → closes (kind ts) ≡ true → Reaches (N (Inverted e) d ∷ K) (a_name ts) K ts
+inverted_eats : (e d : ℕ) (K : Stack) (ts : Lexemes) → closes (kind ts) ≡ true → Leads (N (Inverted e) d ∷ K) (a_name ts) K ts
 inverted_eats e d K ts c = expand (N (Compared e) d ∷ []) refl (compared_eats e d K ts c)
 
-conjunction_eats : (d : ℕ) (K : Stack) (ts : Lexemes) → closes (kind ts) ≡ true → Reaches (N Conjunction d ∷ K) (a_name ts) K ts
+conjunction_eats : (d : ℕ) (K : Stack) (ts : Lexemes) → closes (kind ts) ≡ true → Leads (N Conjunction d ∷ K) (a_name ts) K ts
 conjunction_eats d K ts c =
     expand (N (Inverted d) d ∷ N Ands d ∷ []) refl
     (then_on (inverted_eats d d (N Ands d ∷ K) ts c) (skip ((stops (kind ts) c).ands d)))
 
-expr_eats : (d : ℕ) (K : Stack) (ts : Lexemes) → closes (kind ts) ≡ true → Reaches (N Expr d ∷ K) (a_name ts) K ts
+expr_eats : (d : ℕ) (K : Stack) (ts : Lexemes) → closes (kind ts) ≡ true → Leads (N Expr d ∷ K) (a_name ts) K ts
 expr_eats d K ts c =
     expand (N Conjunction d ∷ N Ors d ∷ []) refl
     (then_on (conjunction_eats d (N Ors d ∷ K) ts c) (skip ((stops (kind ts) c).ors d)))
 
-arg_eats : (d : ℕ) (K : Stack) (ts : Lexemes) → kind ts ≡ t.CloseParen → Reaches (N Arg d ∷ K) (a_name ts) K ts
+arg_eats : (d : ℕ) (K : Stack) (ts : Lexemes) → kind ts ≡ t.CloseParen → Leads (N Arg d ∷ K) (a_name ts) K ts
 arg_eats d K ts is =
     expand (N Expr d ∷ N Keyed d ∷ []) refl (then_on (expr_eats d (N Keyed d ∷ K) ts (ap closes is)) (skip (ap (row Keyed d) is)))
 
-subscripted_eats : (d : ℕ) (K : Stack) (ts : Lexemes) → kind ts ≡ t.CloseBracket → Reaches (N Subscripted d ∷ K) (a_name ts) K ts
+subscripted_eats : (d : ℕ) (K : Stack) (ts : Lexemes) → kind ts ≡ t.CloseBracket → Leads (N Subscripted d ∷ K) (a_name ts) K ts
 subscripted_eats d K ts is =
     expand (N Expr d ∷ N Sliced d ∷ []) refl (then_on (expr_eats d (N Sliced d ∷ K) ts (ap closes is)) (skip (ap (row Sliced d) is)))
 
-comma_eats : (item : Item) (d : ℕ) (K : Stack) (ts : Lexemes) → kind ts ≡ close_of item → Reaches (N (Comma item) d ∷ K) ts K ts
+comma_eats : (item : Item) (d : ℕ) (K : Stack) (ts : Lexemes) → kind ts ≡ close_of item → Leads (N (Comma item) d ∷ K) ts K ts
 comma_eats Param d K ts is = skip (ap (row (Comma Param) d) is)
 comma_eats Value d K ts is = skip (ap (row (Comma Value) d) is)
 comma_eats Element d K ts is = skip (ap (row (Comma Element) d) is)
 comma_eats Argument d K ts is = skip (ap (row (Comma Argument) d) is)
 comma_eats Subscript d K ts is = skip (ap (row (Comma Subscript) d) is)
 
-item_eats : (item : Item) (d : ℕ) (K : Stack) (ts : Lexemes) → kind ts ≡ close_of item → Reaches (item_symbol item d ∷ K) (a_name ts) K ts
+item_eats : (item : Item) (d : ℕ) (K : Stack) (ts : Lexemes) → kind ts ≡ close_of item → Leads (item_symbol item d ∷ K) (a_name ts) K ts
 item_eats Param d K ts is = eat refl stay
 item_eats Value d K ts is = expr_eats d K ts (ap closes is)
 item_eats Element d K ts is = expr_eats d K ts (ap closes is)
 item_eats Argument d K ts is = arg_eats d K ts is
 item_eats Subscript d K ts is = subscripted_eats d K ts is
 
-line_eats : (d : ℕ) (K : Stack) (ts : Lexemes) → Reaches (N Line d ∷ K) (plain_lexeme t.Pass ∷ plain_lexeme t.Newline ∷ ts) K ts
+line_eats : (d : ℕ) (K : Stack) (ts : Lexemes) → Leads (N Line d ∷ K) (plain_lexeme t.Pass ∷ plain_lexeme t.Newline ∷ ts) K ts
 line_eats d K ts =
     expand (N Simple d ∷ T t.Newline ∷ []) refl (expand (T t.Pass ∷ []) refl (eat refl (eat refl stay)))
 
-stmt_eats : (d : ℕ) (K : Stack) (ts : Lexemes) → Reaches (N Stmt d ∷ K) (plain_lexeme t.Pass ∷ plain_lexeme t.Newline ∷ ts) K ts
+stmt_eats : (d : ℕ) (K : Stack) (ts : Lexemes) → Leads (N Stmt d ∷ K) (plain_lexeme t.Pass ∷ plain_lexeme t.Newline ∷ ts) K ts
 stmt_eats d K ts = expand (N Line d ∷ []) refl (line_eats d K ts)
 
-more_eats : (item : Item) (d : ℕ) (K : Stack) (ts : Lexemes) → kind ts ≡ close_of item → Reaches (N (More item) d ∷ K) ts K ts
+more_eats : (item : Item) (d : ℕ) (K : Stack) (ts : Lexemes) → kind ts ≡ close_of item → Leads (N (More item) d ∷ K) ts K ts
 more_eats item d K ts is =
     skip (ap (row (More item) d) is ∙ ap (λ (b : Bool). if b then Some [] else Some (N (Items item) d ∷ [])) (same_self (close_of item)))
 
 eats : (rule : Rule) (d : ℕ) (K : Stack) (ts : Lexemes) → Fits rule (kind ts)
-    → Reaches (N (raised_rule rule) (suc d) ∷ K) (map plain_lexeme (word rule) ++ ts) K ts
+    → Leads (N (raised_rule rule) (suc d) ∷ K) (map plain_lexeme (word rule) ++ ts) K ts
 eats Expr d K ts f = expr_eats (suc d) K ts f
 eats Ors d K ts f = skip ((stops (kind ts) f).ors (suc d))
 eats Conjunction d K ts f = conjunction_eats (suc d) K ts f
@@ -573,9 +594,11 @@ viable_from (suc n) (T k ∷ K) (x ∷ u) rest good e =
 viable_from (suc n) (N rule d ∷ K) (x ∷ u) rest good e =
     go_row (row rule d x.kind) (λ s. run n (s ++ K) (x ∷ (u ++ rest))) x u rest
     (λ s is h.
-    let goes = viable_from n (s ++ K) (x ∷ u) rest (subst (λ o. GoodRow o K) is (keeps rule d x.kind K good.0 good.1)) h in
-    (goes.0, accepts_on (expand (map raised s) (raise rule d x.kind s is) stay)
-    (subst (λ z. Accepts z (x ∷ (u ++ goes.0))) (raised_append s K) goes.1))) e
+    let goes = viable_from n (s ++ K) (x ∷ u) rest (subst (λ o. GoodRow o K) is (keeps rule d x.kind K good.0 good.1)) h in (
+      goes.0,
+      accepts_on (expand (map raised s) (raise rule d x.kind s is) stay)
+          (subst (λ z. Accepts z (x ∷ (u ++ goes.0))) (raised_append s K) goes.1),
+    )) e
 
 pub viable : (depth : ℕ) (used rest : Lexemes) → RefusedAt (N Parts depth ∷ []) (used ++ rest) rest → GoesOn (N Parts (suc depth) ∷ []) used
 viable depth used rest h = viable_from h.0 (N Parts depth ∷ []) used rest (refl, tt) h.1

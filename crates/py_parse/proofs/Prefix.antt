@@ -1,5 +1,5 @@
 -- What stands before a refused lexeme is the longest part that begins lexemes with a tree, and the clauses of `parse` by that.
-use Rattle.std.proofs.Common.{◌≡◌, ℕ, zero, suc, Bool, true, false, List, [], ◌∷◌, ◌++◌, Result, Ok, Err, IfOk, IfErr, refl, ap, sym, subst, ◌∙◌, append_assoc}
+use Rattle.std.proofs.Common.{◌≡◌, ℕ, zero, suc, Bool, true, false, List, [], ◌∷◌, ◌++◌, Result, Ok, Err, IfOk, IfErr, refl, ap, sym, subst, ◌∙◌, append_assoc, if◌then◌else◌}
 use Rattle.krn_base.specs.declared.place.Loc.{Loc}
 use Rattle.krn_base.specs.declared.refusal.Stop.{Stop}
 use Rattle.krn_base.specs.declared.refusal.Stop.TheVariants as stop
@@ -13,14 +13,16 @@ use Rattle.py_parse.specs.declared.tree.Import.{Import}
 use Rattle.py_parse.specs.declared.tree.Function.{Function}
 use Rattle.py_parse.specs.declared.tree.Module.{Module}
 use Rattle.py_parse.specs.declared.tree.Note.{Note}
-use Rattle.py_parse.specs.Lexemes.{Lexeme, Lexemes, lexeme, lexemes, terminal}
+use Rattle.py_parse.specs.Grammar as g
+use Rattle.py_parse.specs.Lexemes.{Lexeme, Lexemes, lexeme, lexemes, terminal, same}
 use Rattle.py_parse.specs.Parser.{Outcome, kind, place}
 use Rattle.py_parse.specs.Blocks.{parts}
 use Rattle.py_parse.specs.Notes.{notes_of}
-use Rattle.py_parse.specs.Stack.{Stack, N, Parts, run, Refused, RefusedAt}
+use Rattle.py_parse.specs.Stack.{Stack, N, Parts, run, Accepted, Refused, RefusedAt}
 use Rattle.py_parse.specs.Parsed.{levels, Halves, IsModule, IsTree, Begins, IsRefusedAt, IsRefusal, IsOnly}
 use Rattle.py_parse.specs.Descended.{IsDescended}
-use Rattle.py_parse.proofs.Machine.{Accepts, not_both, suffix, refused_again}
+use Rattle.py_parse.proofs.Follows.{Follows, Fate}
+use Rattle.py_parse.proofs.Machine.{same_self, Accepts, not_both, suffix, no_longer}
 use Rattle.py_parse.proofs.Plain.{before_end, viable}
 
 abbrev pub bottom : ℕ → Stack
@@ -39,6 +41,21 @@ Sound = (depth : ℕ) (ts : Lexemes) → Goes depth ts (parts depth ts)
 -- what the grammar gives is read
 abbrev pub Complete : Type 0
 Complete = (depth : ℕ) (halves : Halves) (ts : Lexemes) → IsModule depth halves ts → (rest : Lexemes) × (parts depth ts ≡ Ok (halves, rest))
+
+-- where it ends before an End alone, this follows from its following the rule
+goes_by : (depth : ℕ) (ts : Lexemes) (o : Outcome Halves) → Fate (g.parts depth) (bottom depth) ts o
+    → ((halves : Halves) (rest : Lexemes) → o ≡ Ok (halves, rest) → kind rest ≡ t.End) → Goes depth ts o
+goes_by depth ts (Ok p) h end =
+    let ended : kind p.1 ≡ t.End = end p.0 p.1 refl in
+    let first = (h.leads []).by 1 in
+    let last : run 1 [] p.1 ≡ Accepted =
+    ap (λ (b : Bool). if b then Accepted else Refused p.1) (ap (λ k. same k t.End) ended ∙ same_self t.End) in
+    ((h.used, p.1, h.parts, h.is, ended), (first.0, first.1 ∙ last))
+goes_by depth ts (Err rest) h end = h []
+
+pub sound_by : ((depth : ℕ) (ts : Lexemes) → Follows (g.parts depth) (bottom depth) ts (parts depth ts))
+    → ((depth : ℕ) (ts : Lexemes) (halves : Halves) (rest : Lexemes) → parts depth ts ≡ Ok (halves, rest) → kind rest ≡ t.End) → Sound
+sound_by follow end depth ts = goes_by depth ts (parts depth ts) (follow depth ts).fate (end depth ts)
 
 same_halves : (x y : Halves) (r q : Lexemes) → ◌≡◌ {A = Outcome Halves} (Ok (x, r)) (Ok (y, q)) → x ≡ y
 same_halves x y r q e = let same_pair : ◌≡◌ {A = Halves × Lexemes} (x, r) (y, q) = cc in ap (λ (p : Halves × Lexemes). p.0) same_pair
@@ -72,24 +89,22 @@ pub refused_here : Sound → Complete → (depth : ℕ) (used : Lexemes) (at : L
     → parts depth (used ++ at ∷ rest) ≡ Err (at ∷ rest) → IsRefusedAt depth (used ++ at ∷ rest) at
 refused_here sound complete depth used at rest e =
     let refused : RefusedAt (bottom depth) (used ++ at ∷ rest) (at ∷ rest) =
-        subst (λ (o : Outcome Halves). Goes depth (used ++ at ∷ rest) o) e (sound depth (used ++ at ∷ rest)) in
+    subst (λ (o : Outcome Halves). Goes depth (used ++ at ∷ rest) o) e (sound depth (used ++ at ∷ rest)) in
     record {
       used = used;
       rest = rest;
       parts = refl;
       no_row = refused;
       no_tree = λ halves is.
-        let p = complete depth halves (used ++ at ∷ rest) is in
-        not_refused (halves, p.0) (at ∷ rest) (sym p.1 ∙ e);
+          let p = complete depth halves (used ++ at ∷ rest) is in
+          not_refused (halves, p.0) (at ∷ rest) (sym p.1 ∙ e);
       begins =
-        let goes = viable depth used (at ∷ rest) refused in
-        let tree = accepted_tree sound (suc depth) (used ++ goes.0) goes.1 in
-        (tree.0, goes.0, tree.1);
+          let goes = viable depth used (at ∷ rest) refused in
+          let tree = accepted_tree sound (suc depth) (used ++ goes.0) goes.1 in
+          (tree.0, goes.0, tree.1);
       ends = λ h.
-        let is : IsModule depth h.0 (used ++ at ∷ h.1) = subst (λ z. IsModule depth h.0 z) (append_assoc used (at ∷ []) h.1) h.2 in
-        not_both (bottom depth) (used ++ at ∷ h.1) (at ∷ h.1)
-        (tree_accepted sound complete depth h.0 (used ++ at ∷ h.1) is)
-        (refused.0, refused_again refused.0 (bottom depth) used at rest h.1 refused.1);
+          let is : IsModule depth h.0 (used ++ at ∷ h.1) = subst (λ z. IsModule depth h.0 z) (append_assoc used (at ∷ []) h.1) h.2 in
+          no_longer (bottom depth) used at rest h.1 refused (tree_accepted sound complete depth h.0 (used ++ at ∷ h.1) is);
     }
 
 -- a list that an end ends
@@ -121,7 +136,7 @@ refusal sound complete depth ts rest ends e =
     let refused : RefusedAt (bottom depth) ts rest = subst (λ (o : Outcome Halves). Goes depth ts o) e (sound depth ts) in
     let cut = suffix (bottom depth) ts rest refused in
     let end = before_end refused.0 (bottom depth) ends.before ends.last rest (refl, tt) ends.is
-        (subst (λ z. run refused.0 (bottom depth) z ≡ Refused rest) ends.whole refused.1) in
+    (subst (λ z. run refused.0 (bottom depth) z ≡ Refused rest) ends.whole refused.1) in
     refusal_by sound complete depth ts cut.0 end.0 ends.last rest cut.1 end.1 e
 
 -- ---- the clauses of `parse`
