@@ -2,3 +2,4 @@ pub mod Follows
 pub mod Machine
 pub mod Plain
 pub mod Prefix
+pub mod Clauses
