@@ -11,3 +11,7 @@ pub mod FollowExpr
 pub mod FollowLines
 pub mod FollowBlocks
 pub mod FollowModules
+pub mod Machine
+pub mod Plain
+pub mod Prefix
+pub mod Clauses

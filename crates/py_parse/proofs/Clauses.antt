@@ -1,0 +1,28 @@
+-- The clauses of `parse`, from what the descent answers.
+use Rattle.std.proofs.Common.{◌≡◌, ℕ, Result, IfOk, IfErr}
+use Rattle.krn_base.specs.declared.refusal.Stop.{Stop}
+use Rattle.py_lex.specs.Bytes.{Bytes}
+use Rattle.py_lex.specs.Lexed.{IsLexed}
+use Rattle.py_lex.specs.declared.token.Tokens.{Tokens}
+use Rattle.py_parse.specs.declared.tree.Module.{Module}
+use Rattle.py_parse.specs.Descended.{IsDescended}
+use Rattle.py_parse.specs.Parsed.{IsTree, IsRefusal, IsOnly}
+use Rattle.py_parse.proofs.Prefix.{Sound, Complete, has_tree, has_refusal, has_only}
+
+sound : Sound
+sound = ?
+
+complete : Complete
+complete = ?
+
+pub parse_tree : (source : Bytes) (tokens : Tokens) (result : Result Module Stop) → IsDescended source tokens result
+    → IfOk result (λ m. IsTree source tokens m)
+parse_tree source tokens result h = has_tree sound source tokens result h
+
+pub parse_refused : (source : Bytes) (tokens : Tokens) → IsLexed source tokens → (result : Result Module Stop)
+    → IsDescended source tokens result → IfErr result (IsRefusal source tokens)
+parse_refused source tokens lexed result h = has_refusal sound complete source tokens lexed result h
+
+pub parse_only : (source : Bytes) (tokens : Tokens) (result : Result Module Stop) → IsDescended source tokens result
+    → (m : Module) → IsTree source tokens m → IsOnly m result
+parse_only source tokens result h m is = has_only complete source tokens result h m is
