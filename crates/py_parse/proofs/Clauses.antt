@@ -1,16 +1,18 @@
 -- The clauses of `parse`, from what the descent answers.
-use Rattle.std.proofs.Common.{◌≡◌, ℕ, Result, IfOk, IfErr}
+use Rattle.std.proofs.Common.{◌≡◌, ℕ, Result, IfOk, IfErr, subst}
 use Rattle.krn_base.specs.declared.refusal.Stop.{Stop}
 use Rattle.py_lex.specs.Bytes.{Bytes}
 use Rattle.py_lex.specs.Lexed.{IsLexed}
 use Rattle.py_lex.specs.declared.token.Tokens.{Tokens}
 use Rattle.py_parse.specs.declared.tree.Module.{Module}
 use Rattle.py_parse.specs.Descended.{IsDescended}
-use Rattle.py_parse.specs.Parsed.{IsTree, IsRefusal, IsOnly}
-use Rattle.py_parse.proofs.Prefix.{Sound, Complete, has_tree, has_refusal, has_only}
+use Rattle.py_parse.specs.Parsed.{IsTree, IsRefusal, IsOnly, Halves}
+use Rattle.py_parse.specs.Parser.{Outcome}
+use Rattle.py_parse.proofs.FollowModules.{AtEnd, parts_end, parts_follow}
+use Rattle.py_parse.proofs.Prefix.{Sound, Complete, sound_by, has_tree, has_refusal, has_only}
 
 sound : Sound
-sound = ?
+sound = sound_by parts_follow (λ depth ts halves rest e. subst (λ (o : Outcome Halves). AtEnd o) e (parts_end depth ts))
 
 complete : Complete
 complete = ?

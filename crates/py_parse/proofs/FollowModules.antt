@@ -170,7 +170,7 @@ parts_follow depth ts = weaken (λ y us. parts_as depth y us) (parts_from_follow
 -- ---- the end of a module
 
 -- what is read ends before an End
-abbrev AtEnd : {A : Type 0} → Outcome A → Type 0
+abbrev pub AtEnd : {A : Type 0} → Outcome A → Type 0
 AtEnd (Ok q) = kind q.1 ≡ t.End
 AtEnd (Err rest) = Unit {0}
 
@@ -192,7 +192,7 @@ parts_from_end depth zero found ts = tt
 parts_from_end depth (suc n) found ts =
     part_by_end depth (b.parts_from depth n) found ts (kind ts) refl (λ found' us. parts_from_end depth n found' us)
 
-parts_end : (depth : ℕ) (ts : Lexemes) → AtEnd (b.parts depth ts)
+pub parts_end : (depth : ℕ) (ts : Lexemes) → AtEnd (b.parts depth ts)
 unfolding b.parts
 parts_end depth ts = parts_from_end depth (suc (length ts)) ([], []) ts
 
