@@ -15,3 +15,6 @@ pub mod Machine
 pub mod Plain
 pub mod Prefix
 pub mod Clauses
+pub mod ReadLines
+pub mod ReadBlocks
+pub mod ReadModules
