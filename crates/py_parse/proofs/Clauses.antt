@@ -9,13 +9,14 @@ use Rattle.py_parse.specs.Descended.{IsDescended}
 use Rattle.py_parse.specs.Parsed.{IsTree, IsRefusal, IsOnly, Halves}
 use Rattle.py_parse.specs.Parser.{Outcome}
 use Rattle.py_parse.proofs.FollowModules.{AtEnd, parts_end, parts_follow}
+use Rattle.py_parse.proofs.ReadModules.{reads}
 use Rattle.py_parse.proofs.Prefix.{Sound, Complete, sound_by, has_tree, has_refusal, has_only}
 
 sound : Sound
 sound = sound_by parts_follow (λ depth ts halves rest e. subst (λ (o : Outcome Halves). AtEnd o) e (parts_end depth ts))
 
 complete : Complete
-complete = ?
+complete = reads
 
 pub parse_tree : (source : Bytes) (tokens : Tokens) (result : Result Module Stop) → IsDescended source tokens result
     → IfOk result (λ m. IsTree source tokens m)
