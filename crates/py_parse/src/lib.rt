@@ -3,7 +3,9 @@
 //! [`parse`] reads the tokens of a module by this project's grammar, a part of Python's.
 #![tactic(auto)]
 
+mod cursor;
 mod failure;
+mod notes;
 mod reading;
 mod terminal;
 mod tree;
