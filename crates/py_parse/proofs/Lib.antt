@@ -1,1 +1,3 @@
+pub mod LevelLaws
 pub mod NoteLaws
+pub mod Turns

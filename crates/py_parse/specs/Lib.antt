@@ -8,3 +8,4 @@ pub mod Stack
 pub mod Notes
 pub mod Parsed
 pub mod NoteLists
+pub mod Levels

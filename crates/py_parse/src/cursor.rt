@@ -1,6 +1,6 @@
 //! A cursor over the tokens of a source.
 
-ghost use Rattle.std.specs.Prelude.{◌≡◌, length, Ok};
+ghost use Rattle.std.specs.Prelude.{◌≡◌, length, suc, Ok};
 ghost use Rattle.py_lex.specs.Lexed.{text_of};
 ghost use Rattle.py_parse.specs.Lexemes.{lexemes, same};
 ghost use Rattle.py_parse.specs.Parser as spec;
@@ -70,6 +70,13 @@ impl<'a> Cursor<'a> {
         ensures { result ≡ length self.now }
     {
         self.rest.len()
+    }
+
+    /// One more than the tokens that are left.
+    pub fn turns(&self) -> usize
+        ensures { result ≡ suc (length self.now) }
+    {
+        self.rest.len() + 1
     }
 
     fn spelling(&self) -> &'a [u8]

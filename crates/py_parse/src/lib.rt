@@ -3,8 +3,11 @@
 //! [`parse`] reads the tokens of a module by this project's grammar, a part of Python's.
 #![tactic(auto)]
 
+mod block;
 mod cursor;
+mod expr;
 mod failure;
+mod line;
 mod notes;
 mod reading;
 mod terminal;
