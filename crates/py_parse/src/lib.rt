@@ -3,6 +3,7 @@
 //! [`parse`] reads the tokens of a module by this project's grammar, a part of Python's.
 #![tactic(auto)]
 
+mod cursor;
 mod failure;
 mod reading;
 mod terminal;
