@@ -1,3 +1,4 @@
 pub mod LevelLaws
 pub mod NoteLaws
 pub mod Turns
+pub mod Values

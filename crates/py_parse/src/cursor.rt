@@ -1,16 +1,17 @@
 //! A cursor over the tokens of a source.
 
-ghost use Rattle.std.specs.Prelude.{◌≡◌, length, suc, Ok};
+ghost use Rattle.std.specs.Prelude.{◌≡◌, ◌≤◌, ◌^◌, length, suc, pos, Ok};
 ghost use Rattle.py_lex.specs.Lexed.{text_of};
 ghost use Rattle.py_parse.specs.Lexemes.{lexemes, same};
 ghost use Rattle.py_parse.specs.Parser as spec;
 ghost use Rattle.py_parse.specs.Parser.{Reads};
+ghost use Rattle.py_parse.specs.Trees.{value_of};
 
 use crate::failure::Failure;
 use crate::terminal::{Terminal, terminal_of};
 use crate::tree::Name;
 use krn_base::{Loc, Seq};
-use py_lex::Token;
+use py_lex::{Token, number_value};
 use std::alloc::Global;
 use std::marker::Model;
 
@@ -22,11 +23,14 @@ pub struct Cursor<'a> {
 }
 
 impl<'a> Model for Cursor<'a> {
+    ghost use Rattle.std.specs.Prelude.{◌≤◌, ◌^◌, length};
     ghost use Rattle.py_parse.specs.Lexemes.{Lexemes, lexemes};
 
     ghost Value = { Lexemes };
 
     ghost view = { λ c. lexemes c.source.now c.rest.now };
+
+    ghost invariant = { λ c. length c.rest.now ≤ 2 ^ 31 };
 }
 
 /// The bytes of a token, as far as the source has them.
@@ -38,8 +42,17 @@ pub fn text_of<'a>(source: &'a [u8], token: &Token) -> &'a [u8]
     &source[start..end]
 }
 
+/// The value of a number's text, 0 for a text that is none.
+#[tactic(auto, unfolding(crate::specs::Trees::value_of), using(crate::proofs::Values::within_bound))]
+fn value_of(text: &[u8]) -> i64
+    ensures { result ≡ pos (value_of text.now) }
+{
+    number_value(text).unwrap_or(0)
+}
+
 impl<'a> Cursor<'a> {
     pub fn new(source: &'a [u8], rest: &'a [Token]) -> Cursor<'a>
+        requires { length rest.now ≤ 2 ^ 31 }
         ensures { result ≡ lexemes source.now rest.now }
     {
         Cursor { source, rest }
@@ -67,7 +80,8 @@ impl<'a> Cursor<'a> {
 
     /// How many tokens are left.
     pub fn left(&self) -> usize
-        ensures { result ≡ length self.now }
+        ensures value { result ≡ length self.now }
+        ensures within { result ≤ 2 ^ 31 }
     {
         self.rest.len()
     }
@@ -111,6 +125,15 @@ impl<'a> Cursor<'a> {
         })
     }
 
+    /// Takes the next token as a number, whatever it is.
+    pub fn take_value(&mut self) -> i64
+        ensures { spec.take_value self.old ≡ Ok (result, self.new) }
+    {
+        let value = value_of(self.spelling());
+        self.take();
+        value
+    }
+
     /// The place of a token of this kind.
     #[tactic(auto, unfolding(crate::specs::Parser::expect, crate::specs::Lexemes::same))]
     pub fn expect(&mut self, kind: Terminal) -> Result<Loc, Failure>
@@ -129,6 +152,17 @@ impl<'a> Cursor<'a> {
     {
         if self.kind() == Terminal::Name {
             self.take_name(alloc)
+        } else {
+            Err(Failure::Refused)
+        }
+    }
+
+    #[tactic(auto, unfolding(crate::specs::Parser::number, crate::specs::Lexemes::same))]
+    pub fn number(&mut self) -> Result<i64, Failure>
+        ensures { Reads (spec.number self.old) result self.new }
+    {
+        if self.kind() == Terminal::Number {
+            Ok(self.take_value())
         } else {
             Err(Failure::Refused)
         }
