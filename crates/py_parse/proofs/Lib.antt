@@ -1,4 +1,4 @@
-pub mod LevelLaws
+pub mod BlockLevelLaws
 pub mod NoteLaws
 pub mod Turns
 pub mod Values

@@ -8,4 +8,4 @@ pub mod Stack
 pub mod Notes
 pub mod Parsed
 pub mod NoteLists
-pub mod Levels
+pub mod BlockLevels

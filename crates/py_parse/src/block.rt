@@ -1,9 +1,9 @@
 //! Statements and the blocks that they hold.
 
-ghost use Rattle.std.specs.Prelude.{◌≤◌, [], ◌∷◌};
+ghost use Rattle.std.specs.Prelude.{[], ◌∷◌};
 ghost use Rattle.py_parse.specs.declared.terminal.Terminal.TheVariants as t;
 ghost use Rattle.py_parse.specs.Blocks as spec;
-ghost use Rattle.py_parse.specs.Levels.{Deepens};
+ghost use Rattle.py_parse.specs.BlockLevels.{Deepens};
 ghost use Rattle.py_parse.specs.Parser.{Reads, until};
 
 use crate::cursor::Cursor;
@@ -16,8 +16,8 @@ use krn_base::{Loc, Seq};
 use std::alloc::Global;
 
 /// How many levels may still open one level further in.
-#[tactic(auto, using(crate::proofs::LevelLaws::inside, crate::proofs::LevelLaws::inmost))]
-fn deeper(depth: usize) -> Result<usize, Failure>
+#[tactic(auto, using(crate::proofs::BlockLevelLaws::inside, crate::proofs::BlockLevelLaws::inmost))]
+fn deeper(depth: u8) -> Result<u8, Failure>
     ensures { Deepens depth result }
 {
     if depth == 0 {
@@ -34,14 +34,13 @@ fn statements_from(
     alloc: Global,
     tokens: &mut Cursor<'_>,
     first: Stmt,
-    depth: usize,
+    depth: u8,
 ) -> Result<Seq<Stmt>, Failure>
-    requires { depth ≤ 64 }
     ensures { Reads (until t.Dedent (spec.stmt depth) (first ∷ []) tokens.old) result tokens.new }
 {
     let mut found = Vec::new(alloc);
     found.push(first)?;
-    for _turn in 0..tokens.turns() {
+    for _turn in 0..tokens.left() + 1 {
         if tokens.sees(Terminal::Dedent) {
             return Ok(Seq::from_vec(found));
         }
@@ -54,8 +53,7 @@ fn statements_from(
 // The statements of an indented block.
 #[cycle(blocks)]
 #[tactic(auto, unfolding(crate::specs::Blocks::statements))]
-fn statements(alloc: Global, tokens: &mut Cursor<'_>, depth: usize) -> Result<Seq<Stmt>, Failure>
-    requires { depth ≤ 64 }
+fn statements(alloc: Global, tokens: &mut Cursor<'_>, depth: u8) -> Result<Seq<Stmt>, Failure>
     ensures { Reads (spec.statements (spec.stmt depth) tokens.old) result tokens.new }
 {
     tokens.expect(Terminal::Indent)?;
@@ -67,9 +65,8 @@ fn statements(alloc: Global, tokens: &mut Cursor<'_>, depth: usize) -> Result<Se
 
 /// What stands behind a colon: one line, or an indented block one level further in.
 #[cycle(blocks)]
-#[tactic(auto, using(crate::proofs::LevelLaws::block_is), unfolding(crate::specs::Blocks::block_with))]
-pub fn block(alloc: Global, tokens: &mut Cursor<'_>, depth: usize) -> Result<Seq<Stmt>, Failure>
-    requires { depth ≤ 64 }
+#[tactic(auto, using(crate::proofs::BlockLevelLaws::block_is), unfolding(crate::specs::Blocks::block_with))]
+pub fn block(alloc: Global, tokens: &mut Cursor<'_>, depth: u8) -> Result<Seq<Stmt>, Failure>
     ensures { Reads (spec.block depth tokens.old) result tokens.new }
 {
     if tokens.kind() == Terminal::Newline {
@@ -89,9 +86,8 @@ pub fn block(alloc: Global, tokens: &mut Cursor<'_>, depth: usize) -> Result<Seq
 fn arm(
     alloc: Global,
     tokens: &mut Cursor<'_>,
-    depth: usize,
+    depth: u8,
 ) -> Result<(Loc, Expr, Seq<Stmt>), Failure>
-    requires { depth ≤ 64 }
     ensures { Reads (spec.arm depth (spec.block depth) tokens.old) result tokens.new }
 {
     let loc = tokens.take();
@@ -107,9 +103,8 @@ fn otherwise(
     alloc: Global,
     tokens: &mut Cursor<'_>,
     arms: Vec<(Loc, Expr, Seq<Stmt>)>,
-    depth: usize,
+    depth: u8,
 ) -> Result<Stmt, Failure>
-    requires { depth ≤ 64 }
     ensures { Reads (spec.otherwise (spec.block depth) arms.items tokens.old) result tokens.new }
 {
     tokens.take();
@@ -120,14 +115,13 @@ fn otherwise(
 
 // What follows these arms. An `elif` and all that follows it stand one level further in.
 #[cycle(blocks)]
-#[tactic(auto, using(crate::proofs::LevelLaws::tail_is), unfolding(crate::specs::Blocks::tail_with, crate::specs::Blocks::elif_with))]
+#[tactic(auto, using(crate::proofs::BlockLevelLaws::tail_is), unfolding(crate::specs::Blocks::tail_with, crate::specs::Blocks::elif_with))]
 fn tail(
     alloc: Global,
     tokens: &mut Cursor<'_>,
     mut arms: Vec<(Loc, Expr, Seq<Stmt>)>,
-    depth: usize,
+    depth: u8,
 ) -> Result<Stmt, Failure>
-    requires { depth ≤ 64 }
     ensures { Reads (spec.tail depth arms.items tokens.old) result tokens.new }
 {
     match tokens.kind() {
@@ -147,8 +141,7 @@ fn tail(
 
 #[cycle(blocks)]
 #[tactic(auto, unfolding(crate::specs::Blocks::looped))]
-fn looped(alloc: Global, tokens: &mut Cursor<'_>, depth: usize) -> Result<Stmt, Failure>
-    requires { depth ≤ 64 }
+fn looped(alloc: Global, tokens: &mut Cursor<'_>, depth: u8) -> Result<Stmt, Failure>
     ensures { Reads (spec.looped depth (spec.block depth) tokens.old) result tokens.new }
 {
     let loc = tokens.take();
@@ -163,8 +156,7 @@ fn looped(alloc: Global, tokens: &mut Cursor<'_>, depth: usize) -> Result<Stmt, 
 /// A statement in which so many levels may still open.
 #[cycle(blocks)]
 #[tactic(auto, unfolding(crate::specs::Blocks::stmt, crate::specs::Blocks::stmt_with))]
-fn stmt(alloc: Global, tokens: &mut Cursor<'_>, depth: usize) -> Result<Stmt, Failure>
-    requires { depth ≤ 64 }
+fn stmt(alloc: Global, tokens: &mut Cursor<'_>, depth: u8) -> Result<Stmt, Failure>
     ensures { Reads (spec.stmt depth tokens.old) result tokens.new }
 {
     match tokens.kind() {

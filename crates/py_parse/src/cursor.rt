@@ -1,6 +1,6 @@
 //! A cursor over the tokens of a source.
 
-ghost use Rattle.std.specs.Prelude.{◌≡◌, ◌≤◌, ◌^◌, length, suc, pos, Ok};
+ghost use Rattle.std.specs.Prelude.{◌≡◌, ◌≤◌, ◌^◌, length, pos, Ok};
 ghost use Rattle.py_lex.specs.Lexed.{text_of};
 ghost use Rattle.py_parse.specs.Lexemes.{lexemes, same};
 ghost use Rattle.py_parse.specs.Parser as spec;
@@ -84,13 +84,6 @@ impl<'a> Cursor<'a> {
         ensures within { result ≤ 2 ^ 31 }
     {
         self.rest.len()
-    }
-
-    /// One more than the tokens that are left.
-    pub fn turns(&self) -> usize
-        ensures { result ≡ suc (length self.now) }
-    {
-        self.rest.len() + 1
     }
 
     fn spelling(&self) -> &'a [u8]

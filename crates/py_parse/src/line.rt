@@ -1,13 +1,13 @@
 //! Statements that stand on one line.
 
-ghost use Rattle.std.specs.Prelude.{◌≤◌};
 ghost use Rattle.py_parse.specs.Blocks as spec;
 ghost use Rattle.py_parse.specs.Descent.{expr};
 ghost use Rattle.py_parse.specs.Parser.{Reads, kind};
 
 use crate::cursor::Cursor;
-use crate::expr::{expr, expressions, trailed, trailers};
+use crate::expr::expr;
 use crate::failure::Failure;
+use crate::operand::{expressions, trailed, trailers};
 use crate::terminal::{Terminal, augmented};
 use crate::tree::{Expr, Stmt};
 use krn_base::Loc;
@@ -19,9 +19,8 @@ fn stored_by(
     tokens: &mut Cursor<'_>,
     target: Expr,
     loc: Loc,
-    depth: usize,
+    depth: u8,
 ) -> Result<Stmt, Failure>
-    requires { depth ≤ 64 }
     ensures { Reads (spec.stored_by (expr depth) target loc (kind tokens.old) tokens.old) result tokens.new }
 {
     if tokens.kind() == Terminal::Assign {
@@ -39,8 +38,7 @@ fn stored_by(
 
 // An expression that begins with a name, alone or the target of an assignment.
 #[tactic(auto, unfolding(crate::specs::Blocks::stored))]
-fn stored(alloc: Global, tokens: &mut Cursor<'_>, depth: usize) -> Result<Stmt, Failure>
-    requires { depth ≤ 64 }
+fn stored(alloc: Global, tokens: &mut Cursor<'_>, depth: u8) -> Result<Stmt, Failure>
     ensures { Reads (spec.stored depth tokens.old) result tokens.new }
 {
     let first = Expr::Name(tokens.take_name(alloc)?);
@@ -51,18 +49,16 @@ fn stored(alloc: Global, tokens: &mut Cursor<'_>, depth: usize) -> Result<Stmt, 
 }
 
 #[tactic(auto, unfolding(crate::specs::Blocks::returned))]
-fn returned(alloc: Global, tokens: &mut Cursor<'_>, depth: usize) -> Result<Stmt, Failure>
-    requires { depth ≤ 64 }
+fn returned(alloc: Global, tokens: &mut Cursor<'_>, depth: u8) -> Result<Stmt, Failure>
     ensures { Reads (spec.returned depth tokens.old) result tokens.new }
 {
     let loc = tokens.take();
-    let values = expressions(alloc, tokens, Terminal::Newline, Vec::new(alloc), depth)?;
+    let values = expressions(alloc, tokens, depth, Terminal::Newline, Vec::new(alloc))?;
     Ok(Stmt::Return(loc, values))
 }
 
 #[tactic(auto, unfolding(crate::specs::Blocks::simple))]
-fn simple(alloc: Global, tokens: &mut Cursor<'_>, depth: usize) -> Result<Stmt, Failure>
-    requires { depth ≤ 64 }
+fn simple(alloc: Global, tokens: &mut Cursor<'_>, depth: u8) -> Result<Stmt, Failure>
     ensures { Reads (spec.simple depth tokens.old) result tokens.new }
 {
     match tokens.kind() {
@@ -82,8 +78,7 @@ fn simple(alloc: Global, tokens: &mut Cursor<'_>, depth: usize) -> Result<Stmt, 
 
 /// A statement and the end of its line.
 #[tactic(auto, unfolding(crate::specs::Blocks::line))]
-pub fn line(alloc: Global, tokens: &mut Cursor<'_>, depth: usize) -> Result<Stmt, Failure>
-    requires { depth ≤ 64 }
+pub fn line(alloc: Global, tokens: &mut Cursor<'_>, depth: u8) -> Result<Stmt, Failure>
     ensures { Reads (spec.line depth tokens.old) result tokens.new }
 {
     let statement = simple(alloc, tokens, depth)?;

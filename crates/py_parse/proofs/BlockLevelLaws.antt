@@ -2,7 +2,7 @@
 use Rattle.std.proofs.Common.{◌≡◌, ℕ, zero, suc, ◌+◌, ◌-◌, refl, arith}
 use Rattle.py_parse.specs.Parser.{Parser}
 use Rattle.py_parse.specs.Blocks.{Arms, block, tail, stmt, block_with, tail_with, stmt_with, elif_with}
-use Rattle.py_parse.specs.Levels.{stmt_inside, elif_inside, IsInside, IsInmost}
+use Rattle.py_parse.specs.BlockLevels.{stmt_inside, elif_inside, IsInside, IsInmost}
 
 inside-suc : (n inner : ℕ) → inner ≡ n → IsInside (suc n) inner
 inside-suc n inner e = rw e (record { stmts = refl; elifs = refl; below = omega arith })
