@@ -1,4 +1,5 @@
 pub mod BlockLevelLaws
+pub mod LexedFacts
 pub mod NoteLaws
 pub mod Turns
 pub mod Values

@@ -9,3 +9,4 @@ pub mod Notes
 pub mod Parsed
 pub mod NoteLists
 pub mod BlockLevels
+pub mod Reading
