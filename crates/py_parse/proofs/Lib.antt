@@ -1,1 +1,4 @@
+pub mod Rows
+pub mod Trailers
+pub mod Turns
 pub mod Values

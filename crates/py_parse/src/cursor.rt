@@ -1,6 +1,6 @@
 //! A cursor over the tokens of a source.
 
-ghost use Rattle.std.specs.Prelude.{◌≡◌, length, pos, Ok};
+ghost use Rattle.std.specs.Prelude.{◌≡◌, ◌<◌, ◌^◌, length, pos, Ok};
 ghost use Rattle.py_lex.specs.Lexed.{text_of};
 ghost use Rattle.py_parse.specs.Lexemes.{lexemes, same};
 ghost use Rattle.py_parse.specs.Parser as spec;
@@ -76,7 +76,8 @@ impl<'a> Cursor<'a> {
 
     /// How many tokens are left.
     pub fn left(&self) -> usize
-        ensures { result ≡ length self.now }
+        ensures value { result ≡ length self.now }
+        ensures few { result < 2 ^ 63 }
     {
         self.rest.len()
     }

@@ -4,9 +4,13 @@
 #![tactic(auto)]
 
 mod cursor;
+mod expr;
 mod failure;
+mod operand;
 mod reading;
 mod terminal;
+#[cfg(test)]
+mod tests;
 mod tree;
 
 pub use reading::parse;
