@@ -2,6 +2,7 @@ pub mod Lexemes
 pub mod Trees
 pub mod Parser
 pub mod Descent
+pub mod Levels
 pub mod Blocks
 pub mod Grammar
 pub mod Stack

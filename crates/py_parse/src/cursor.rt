@@ -81,7 +81,7 @@ impl<'a> Cursor<'a> {
     /// How many tokens are left.
     pub fn left(&self) -> usize
         ensures value { result ≡ length self.now }
-        ensures within { result ≤ 2 ^ 31 }
+        ensures few { result ≤ 2 ^ 31 }
     {
         self.rest.len()
     }

@@ -13,6 +13,8 @@ mod notes;
 mod operand;
 mod reading;
 mod terminal;
+#[cfg(test)]
+mod tests;
 mod tree;
 
 pub use reading::parse;

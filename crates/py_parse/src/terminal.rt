@@ -197,7 +197,7 @@ fn binary(terminal: Terminal) -> Option<BinOp>
 }
 
 /// The level of such an operator: `*` and its like bind tightest, at 1. 0 for what is none.
-fn level(terminal: Terminal) -> usize
+fn level(terminal: Terminal) -> u8
     ensures { result ≡ trees.level terminal }
 {
     match terminal {
@@ -213,7 +213,7 @@ fn level(terminal: Terminal) -> usize
 
 /// The operator of this level, if the token is one.
 #[tactic(auto, unfolding(crate::specs::Trees::operator_at))]
-pub fn operator_at(at: usize, terminal: Terminal) -> Option<BinOp>
+pub fn operator_at(at: u8, terminal: Terminal) -> Option<BinOp>
     ensures { result ≡ trees.operator_at at terminal }
 {
     if level(terminal) == at {
