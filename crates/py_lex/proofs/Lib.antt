@@ -4,6 +4,7 @@ pub mod Choices
 pub mod Cuts
 pub mod GoodLaws
 pub mod LexedLaws
+pub mod Numbers
 pub mod PieceLaws
 pub mod TextLaws
 pub mod Turns

@@ -1,5 +1,5 @@
 -- What is a name, a keyword, a number, a text, an operator and a note.
-use Rattle.std.specs.Prelude.{ℕ, suc, zero, ◌+◌, ◌-◌, ◌*◌, ◌^◌, Bool, false, not, ◌||◌, ◌&&◌, List, [], ◌∷◌, ◌==◌, nat_eq, nat_lt, nat_le, if◌then◌else◌, slice_index, length, codes, drop, fold, max, Option, Some, None}
+use Rattle.std.specs.Prelude.{ℕ, suc, zero, ◌+◌, ◌-◌, ◌*◌, ◌^◌, Bool, false, not, ◌||◌, ◌&&◌, List, [], ◌∷◌, ◌==◌, nat_eq, nat_lt, nat_le, if◌then◌else◌, slice_index, length, codes, drop, fold, max, Option, Some, None, ℤ, pos}
 use Rattle.std.specs.List.{list_any, starts_with}
 use Rattle.std.specs.Str.{bytes_eq}
 use Rattle.py_lex.specs.declared.bytes.Set.TheVariants.{Blank, Digit, Hexadecimal, Word}
@@ -68,6 +68,11 @@ number_value text =
 abbrev pub is_in_range : Option ℕ → Bool
 is_in_range (Some n) = nat_lt n (2 ^ 63)
 is_in_range None = false
+
+-- the value, where it is at most 2^63 - 1
+abbrev pub below_bound : Option ℕ → Option ℤ
+below_bound (Some n) = if nat_lt n (2 ^ 63) then Some (pos n) else None
+below_bound None = None
 
 unfoldable pub is_number : Bytes → Bool
 is_number text = is_in_range (number_value text)

@@ -17,4 +17,5 @@ mod token;
 mod words;
 
 pub use lexer::tokens;
+pub use number::number_value;
 pub use token::{Token, TokenKind, Tokens};

@@ -1,6 +1,6 @@
-//! Whether a run of letters and digits is a number.
+//! Whether a run of letters and digits is a number, and its value.
 
-ghost use Rattle.std.specs.Prelude.{◌≡◌, ◌^◌, nat_lt};
+ghost use Rattle.std.specs.Prelude.{◌≡◌, ◌^◌, min};
 ghost use Rattle.py_lex.specs.Words as spec;
 
 use crate::bytes::{Set, are_in};
@@ -20,8 +20,9 @@ fn digit_value(b: u8) -> u64
     }
 }
 
-fn decimal_fits(digits: &[u8]) -> bool
-    ensures { result ≡ nat_lt (spec.decimal_value digits.now) (2 ^ 63) }
+// The value of the digits, cut at the bound.
+fn decimal(digits: &[u8]) -> u64
+    ensures { result ≡ min (spec.decimal_value digits.now) (2 ^ 63) }
 {
     let mut value: u64 = 0;
     for b in digits {
@@ -30,11 +31,11 @@ fn decimal_fits(digits: &[u8]) -> bool
             .saturating_add(digit_value(*b))
             .min(BOUND);
     }
-    value < BOUND
+    value
 }
 
-fn hexadecimal_fits(digits: &[u8]) -> bool
-    ensures { result ≡ nat_lt (spec.hexadecimal_value digits.now) (2 ^ 63) }
+fn hexadecimal(digits: &[u8]) -> u64
+    ensures { result ≡ min (spec.hexadecimal_value digits.now) (2 ^ 63) }
 {
     let mut value: u64 = 0;
     for b in digits {
@@ -43,7 +44,17 @@ fn hexadecimal_fits(digits: &[u8]) -> bool
             .saturating_add(digit_value(*b))
             .min(BOUND);
     }
-    value < BOUND
+    value
+}
+
+fn below_bound(value: u64) -> Option<i64>
+    ensures { result ≡ spec.below_bound (Some value) }
+{
+    if value < BOUND {
+        Some(value as i64)
+    } else {
+        None
+    }
 }
 
 fn is_decimal(text: &[u8]) -> bool
@@ -63,16 +74,25 @@ fn is_hexadecimal(text: &[u8]) -> bool
     }
 }
 
+/// The value of a number's text: `0`, decimal digits of which the first isn't 0, or `0x` and hexadecimal digits. `None` for a
+/// number above 2^63-1, and for every text that is no number.
+#[tactic(auto, using(crate::proofs::Numbers::below_bound_capped), unfolding(crate::specs::Words::number_value))]
+pub fn number_value(text: &[u8]) -> Option<i64>
+    ensures { result ≡ spec.below_bound (spec.number_value text.now) }
+{
+    if is_decimal(text) {
+        below_bound(decimal(text))
+    } else if is_hexadecimal(text) {
+        below_bound(hexadecimal(&text[2..]))
+    } else {
+        None
+    }
+}
+
 /// Whether the text is a number of at most 2^63-1.
-#[tactic(auto, unfolding(crate::specs::Words::is_number, crate::specs::Words::number_value))]
+#[tactic(auto, using(crate::proofs::Numbers::below_bound_some), unfolding(crate::specs::Words::is_number))]
 pub fn is_number(text: &[u8]) -> bool
     ensures { result ≡ spec.is_number text.now }
 {
-    if is_decimal(text) {
-        decimal_fits(text)
-    } else if is_hexadecimal(text) {
-        hexadecimal_fits(&text[2..])
-    } else {
-        false
-    }
+    number_value(text).is_some()
 }

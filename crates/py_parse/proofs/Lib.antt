@@ -19,3 +19,10 @@ pub mod Clauses
 pub mod ReadLines
 pub mod ReadBlocks
 pub mod ReadModules
+pub mod BlockLevelLaws
+pub mod LexedFacts
+pub mod NoteLaws
+pub mod Rows
+pub mod Trailers
+pub mod Turns
+pub mod Values

@@ -2,9 +2,12 @@ pub mod Lexemes
 pub mod Trees
 pub mod Parser
 pub mod Descent
+pub mod Levels
 pub mod Blocks
 pub mod Grammar
 pub mod Stack
 pub mod Notes
 pub mod Parsed
 pub mod Descended
+pub mod NoteLists
+pub mod BlockLevels

@@ -3,10 +3,19 @@
 //! [`parse`] reads the tokens of a module by this project's grammar, a part of Python's.
 #![tactic(auto)]
 
+mod block;
+mod cursor;
+mod expr;
 mod failure;
 mod laws;
+mod line;
+mod module;
+mod notes;
+mod operand;
 mod reading;
 mod terminal;
+#[cfg(test)]
+mod tests;
 mod tree;
 
 pub use laws::tree_laws;

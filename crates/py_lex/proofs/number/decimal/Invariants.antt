@@ -1,6 +1,6 @@
 use Rattle.std.proofs.Common.{◌≡◌, ◌^◌, take, min}
 use Rattle.py_lex.specs.Words.{decimal_value}
-use Rattle.py_lex.proofs.number.decimal_fits.Given as goal
+use Rattle.py_lex.proofs.number.decimal.Given as goal
 
 abbrev pub invariant-loop-b : goal.invariant-loop-b
 invariant-loop-b l = l.value ≡ min (decimal_value (take l.b-index l.digits)) (2 ^ 63)
