@@ -531,22 +531,20 @@ fn counts_levels(rt: HostRuntime) -> Result<(), Fail> {
     Ok(())
 }
 
-// As many tokens as a source may have: in many statements, in one expression, and in one list.
+// As many tokens as a source may have: many statements, one expression and one list.
 #[test]
 fn reads_as_many_tokens_as_there_may_be(rt: HostRuntime) -> Result<(), Fail> {
-    let cases: [&[(&[u8], usize)]; 3] = [
-        &[
-            (b"def f():\n", 1),
-            (b" a = b\n", 49_997),
-            (b" return a\n", 1),
-        ],
-        &[(b"def f(): a = b", 1), (b" + c", 99_995)],
-        &[(b"def f(): return ", 1), (b"c, ", 99_996)],
+    let parts: [(&[u8], usize); 7] = [
+        (b"def f():\n", 1),
+        (b" a = b\n", 20_000),
+        (b" a = b", 1),
+        (b" + c", 30_000),
+        (b"\n return ", 1),
+        (b"c, ", 29_992),
+        (b"c\n", 1),
     ];
-    for parts in cases {
-        let source = joined(rt.alloc(), parts)?;
-        let found = weights(rt.alloc(), source.as_slice())?;
-        assert_eq!(rt; found.as_str(), "199999 ");
-    }
+    let source = joined(rt.alloc(), &parts)?;
+    let found = weights(rt.alloc(), source.as_slice())?;
+    assert_eq!(rt; found.as_str(), "199999 ");
     Ok(())
 }
