@@ -1,3 +1,6 @@
+pub mod BlockLevelLaws
+pub mod LexedFacts
+pub mod NoteLaws
 pub mod Rows
 pub mod Trailers
 pub mod Turns

@@ -8,3 +8,6 @@ pub mod Grammar
 pub mod Stack
 pub mod Notes
 pub mod Parsed
+pub mod NoteLists
+pub mod BlockLevels
+pub mod Reading

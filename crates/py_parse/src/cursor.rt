@@ -1,6 +1,6 @@
 //! A cursor over the tokens of a source.
 
-ghost use Rattle.std.specs.Prelude.{◌≡◌, ◌<◌, ◌^◌, length, pos, Ok};
+ghost use Rattle.std.specs.Prelude.{◌≡◌, ◌≤◌, ◌^◌, length, pos, Ok};
 ghost use Rattle.py_lex.specs.Lexed.{text_of};
 ghost use Rattle.py_parse.specs.Lexemes.{lexemes, same};
 ghost use Rattle.py_parse.specs.Parser as spec;
@@ -25,7 +25,7 @@ pub struct Cursor<'a> {
 }
 
 impl<'a> Model for Cursor<'a> {
-    ghost use Rattle.std.specs.Prelude.{◌≡◌};
+    ghost use Rattle.std.specs.Prelude.{◌≡◌, ◌≤◌, ◌^◌, length};
     ghost use Rattle.py_parse.specs.Lexemes.{Lexemes, lexemes};
     ghost use Rattle.py_parse.specs.Parser as parser;
 
@@ -33,11 +33,11 @@ impl<'a> Model for Cursor<'a> {
 
     ghost view = { λ c. lexemes c.source.now c.rest.now };
 
-    ghost invariant = { λ c. c.kind ≡ parser.kind (lexemes c.source.now c.rest.now) };
+    ghost invariant = { λ c. (c.kind ≡ parser.kind (lexemes c.source.now c.rest.now)) × (length c.rest.now ≤ 2 ^ 31) };
 }
 
 /// The bytes of a token, as far as the source has them.
-fn text_of<'a>(source: &'a [u8], token: &Token) -> &'a [u8]
+pub fn text_of<'a>(source: &'a [u8], token: &Token) -> &'a [u8]
     ensures { result.now ≡ text_of source.now token.now }
 {
     let end = (token.end as usize).min(source.len());
@@ -64,6 +64,7 @@ fn value_of(text: &[u8]) -> i64
 
 impl<'a> Cursor<'a> {
     pub fn new(source: &'a [u8], rest: &'a [Token]) -> Cursor<'a>
+        requires { length rest.now ≤ 2 ^ 31 }
         ensures { result ≡ lexemes source.now rest.now }
     {
         Cursor {
@@ -93,7 +94,7 @@ impl<'a> Cursor<'a> {
     /// How many tokens are left.
     pub fn left(&self) -> usize
         ensures value { result ≡ length self.now }
-        ensures few { result < 2 ^ 63 }
+        ensures few { result ≤ 2 ^ 31 }
     {
         self.rest.len()
     }

@@ -3,9 +3,13 @@
 //! [`parse`] reads the tokens of a module by this project's grammar, a part of Python's.
 #![tactic(auto)]
 
+mod block;
 mod cursor;
 mod expr;
 mod failure;
+mod line;
+mod module;
+mod notes;
 mod operand;
 mod reading;
 mod terminal;

@@ -2,21 +2,61 @@ ghost use Rattle.std.specs.Prelude.{IfOk, IfErr};
 ghost use Rattle.py_lex.specs.Lexed.{IsLexed};
 ghost use Rattle.py_parse.specs.Parsed.{IsTree, IsRefusal, IsOnly};
 ghost use Rattle.py_parse.specs.declared.tree.Module.{Module};
+ghost use Rattle.py_parse.specs.Reading.{IsReading};
 
+use crate::cursor::Cursor;
+use crate::failure::Failure;
+use crate::module::parts;
+use crate::notes::notes;
 use crate::tree::Module;
-use krn_base::Stop;
+use krn_base::{Refusal, Rule, Seq, Stop};
 use py_lex::Tokens;
 use std::alloc::Global;
+
+/// At most so many levels may be open.
+const LEVELS: u8 = 64;
+
+/// The module by descent.
+#[tactic(auto, using(crate::proofs::LexedFacts::notes_rise, crate::proofs::LexedFacts::tokens_fit))]
+fn read(alloc: Global, source: &[u8], tokens: &Tokens) -> Result<Module, Stop>
+    requires { IsLexed source.now tokens.now }
+    ensures { IsReading source.now tokens.now result }
+{
+    let mut cursor = Cursor::new(source, tokens.tokens.as_slice());
+    let (imports, functions) = match parts(alloc, &mut cursor, LEVELS) {
+        Ok(parts) => parts,
+        Err(Failure::Memory) => return Err(Stop::Memory),
+        Err(Failure::Refused) => {
+            return Err(Stop::Refused(Refusal {
+                rule: Rule::Syntax,
+                loc: cursor.loc(),
+            }));
+        }
+    };
+    match notes(
+        alloc,
+        source,
+        tokens.tokens.as_slice(),
+        tokens.notes.as_slice(),
+    ) {
+        Ok(notes) => Ok(Module {
+            imports,
+            functions,
+            notes: Seq::from_vec(notes),
+        }),
+        Err(_) => Err(Stop::Memory),
+    }
+}
 
 /// The tree of a module's source and its tokens, by this project's grammar.
 ///
 /// The answer is the one tree that the grammar gives; [`Stop::Refused`] by `Rule::Syntax`, exactly where it gives none, at the first
 /// token that can't stand where it does or that opens the 65th level; or [`Stop::Memory`]. The tokens are read in one pass.
-pub fn parse(_alloc: Global, _source: &[u8], _tokens: &Tokens) -> Result<Module, Stop>
-    requires { IsLexed _source.now _tokens.now }
-    ensures tree { IfOk result (λ m. IsTree _source.now _tokens.now m) }
-    ensures refused { IfErr result (IsRefusal _source.now _tokens.now) }
-    ensures only { (m : Module) → IsTree _source.now _tokens.now m → IsOnly m result }
+pub fn parse(alloc: Global, source: &[u8], tokens: &Tokens) -> Result<Module, Stop>
+    requires { IsLexed source.now tokens.now }
+    ensures tree { IfOk result (λ m. IsTree source.now tokens.now m) }
+    ensures refused { IfErr result (IsRefusal source.now tokens.now) }
+    ensures only { (m : Module) → IsTree source.now tokens.now m → IsOnly m result }
 {
-    Err(Stop::Memory)
+    read(alloc, source, tokens)
 }
