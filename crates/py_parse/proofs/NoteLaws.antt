@@ -43,7 +43,7 @@ pub skip_all : (source : Bytes) (note : Token) (ts notes : List Token) → AllBy
 skip_all source note ts [] h = refl
 skip_all source note ts (later ∷ notes) h =
     let first : note_of source (from_behind note ts) later ≡ note_of source ts later =
-      ap (λ (next : Token). record { text = text_of source later; loc = later.loc; next = next }) (skip note later ts h.0) in
+    ap (λ (next : Token). record { text = text_of source later; loc = later.loc; next = next }) (skip note later ts h.0) in
     let others = skip_all source note ts notes h.1 in
     ap (λ (x : Note). x ∷ notes_of source (from_behind note ts) notes) first ∙ ap (λ (xs : List Note). note_of source ts later ∷ xs) others
 
@@ -53,7 +53,7 @@ pub turn : (source : Bytes) (note : Token) (ts notes : List Token) → IsRising 
     ≡ spoken source note (first_or note (from_behind note ts)) ∷ notes_of source (from_behind note ts) notes
 turn source note ts notes rising =
     let first : note_of source ts note ≡ spoken source note (first_or note (from_behind note ts)) =
-      ap (λ (next : Token). record { text = text_of source note; loc = note.loc; next = next }) (next_first note ts) in
+    ap (λ (next : Token). record { text = text_of source note; loc = note.loc; next = next }) (next_first note ts) in
     ap (λ (x : Note). x ∷ notes_of source ts notes) first
     ∙ ap (λ (xs : List Note). spoken source note (first_or note (from_behind note ts)) ∷ xs) (sym (skip_all source note ts notes rising.0))
 
@@ -79,7 +79,7 @@ turned source all found pushed ts behind [] d n next some whole rising b f e p =
 turned source all found pushed ts behind (note ∷ more) d n next some whole rising b f e p =
     let rest : take (length (note ∷ more) - 1) (drop 1 (note ∷ more)) ≡ more = take_rest (note ∷ more) 1 in
     let is : n ≡ spoken source note (first_or note (from_behind note ts)) =
-      e ∙ (ap (λ (x : Token). spoken source note x) f ∙ ap (λ (xs : List Token). spoken source note (first_or note xs)) b) in
+    e ∙ (ap (λ (x : Token). spoken source note x) f ∙ ap (λ (xs : List Token). spoken source note (first_or note xs)) b) in
     let push : pushed ≡ found ++ spoken source note (first_or note (from_behind note ts)) ∷ [] = p ∙ ap (λ (x : Note). found ++ x ∷ []) is in
     subst (λ (xs : List Token). IsOnTheWay source all pushed behind xs) (sym rest)
     (subst (λ (xs : List Token). IsOnTheWay source all pushed xs more) (sym b)

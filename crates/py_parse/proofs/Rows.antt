@@ -1,5 +1,5 @@
 -- What the rules are at a number of levels that isn't written as a successor.
-use Rattle.std.proofs.Common.{◌≡◌, ℕ, zero, suc, ◌+◌, ◌-◌, ◌<◌, ◌≢◌, Bool, true, false, cond, eqb, List, [], ◌∷◌, ◌++◌, Option, Some, None, Result, Ok, Err, refl, ap, sym, arith}
+use Rattle.std.proofs.Common.{◌≡◌, ℕ, zero, suc, ◌+◌, ◌-◌, ◌≢◌, List, [], ◌∷◌, ◌++◌, Option, Some, None, Ok, Err, refl, ap, arith}
 use Rattle.py_parse.specs.Parser.{Parser, Outcome, ◌>>=◌, and_then, pure, peek, deeper, kind}
 use Rattle.py_parse.specs.Descent.{Inner, inside, expr, disjunction, inverted, inverted_by, compared, chain, unary, signed, power, links, trailers_by, trailers_from, call, pick, attribute}
 use Rattle.py_parse.specs.Levels.{trailer_by, trailer}

@@ -1,5 +1,5 @@
 -- Trailers behind an expression that ends in trailers.
-use Rattle.std.proofs.Common.{◌≡◌, ◌≢◌, ℕ, List, [], ◌∷◌, ◌++◌, length, refl, sym, ap, ◌∙◌, rules, arith}
+use Rattle.std.proofs.Common.{◌≡◌, ◌≢◌, List, [], ◌∷◌, ◌++◌, length, refl, ap, rules}
 use Rattle.py_parse.specs.Trees.{trailed, behind}
 use Rattle.py_parse.specs.declared.tree.Expr.{Expr, out-Expr, the_lemmas}
 use Rattle.py_parse.specs.declared.tree.Expr.TheVariants as e

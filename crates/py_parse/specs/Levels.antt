@@ -1,8 +1,7 @@
 -- What the calls of the expression code answer beside what they read.
 use Rattle.std.specs.Prelude.{◌≡◌, ℕ, ◌+◌, Option, Some, None}
 use Rattle.py_parse.specs.declared.tree.Trailer.{Trailer}
-use Rattle.py_parse.specs.Parser.{Parser, ◌>>=◌, pure, deeper}
-use Rattle.py_parse.specs.Parser as parser
+use Rattle.py_parse.specs.Parser.{Parser, ◌>>=◌, pure, peek, deeper}
 use Rattle.py_parse.specs.declared.terminal.Terminal.{Terminal}
 use Rattle.py_parse.specs.declared.terminal.Terminal.TheVariants as t
 use Rattle.py_parse.specs.Descent.{Inner, inside, expr, call, pick, attribute}
@@ -21,5 +20,5 @@ trailer_by inner _ = pure None
 
 unfoldable pub trailer : Inner → Parser (Option Trailer)
 trailer inner = do
-  kind ← parser.peek
+  kind ← peek
   trailer_by inner kind

@@ -83,11 +83,7 @@ pub fn block(alloc: Global, tokens: &mut Cursor<'_>, depth: u8) -> Result<Seq<St
 // The place, the condition and the block of an `if` or `elif`.
 #[cycle(blocks)]
 #[tactic(auto, unfolding(crate::specs::Blocks::arm))]
-fn arm(
-    alloc: Global,
-    tokens: &mut Cursor<'_>,
-    depth: u8,
-) -> Result<(Loc, Expr, Seq<Stmt>), Failure>
+fn arm(alloc: Global, tokens: &mut Cursor<'_>, depth: u8) -> Result<(Loc, Expr, Seq<Stmt>), Failure>
     ensures { Reads (spec.arm depth (spec.block depth) tokens.old) result tokens.new }
 {
     let loc = tokens.take();
@@ -132,10 +128,7 @@ fn tail(
             tail(alloc, tokens, arms, inner)
         }
         Terminal::Else => otherwise(alloc, tokens, arms, depth),
-        _ => Ok(Stmt::If(
-            Seq::from_vec(arms),
-            Seq::from_vec(Vec::new(alloc)),
-        )),
+        _ => Ok(Stmt::If(Seq::from_vec(arms), Seq::from_vec(Vec::new(alloc)))),
     }
 }
 

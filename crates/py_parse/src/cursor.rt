@@ -20,17 +20,20 @@ use std::marker::Model;
 pub struct Cursor<'a> {
     source: &'a [u8],
     rest: &'a [Token],
+    /// What the first of them is.
+    kind: Terminal,
 }
 
 impl<'a> Model for Cursor<'a> {
-    ghost use Rattle.std.specs.Prelude.{◌≤◌, ◌^◌, length};
+    ghost use Rattle.std.specs.Prelude.{◌≡◌, ◌≤◌, ◌^◌, length};
     ghost use Rattle.py_parse.specs.Lexemes.{Lexemes, lexemes};
+    ghost use Rattle.py_parse.specs.Parser as parser;
 
     ghost Value = { Lexemes };
 
     ghost view = { λ c. lexemes c.source.now c.rest.now };
 
-    ghost invariant = { λ c. length c.rest.now ≤ 2 ^ 31 };
+    ghost invariant = { λ c. (c.kind ≡ parser.kind (lexemes c.source.now c.rest.now)) × (length c.rest.now ≤ 2 ^ 31) };
 }
 
 /// The bytes of a token, as far as the source has them.
@@ -40,6 +43,15 @@ pub fn text_of<'a>(source: &'a [u8], token: &Token) -> &'a [u8]
     let end = (token.end as usize).min(source.len());
     let start = (token.start as usize).min(end);
     &source[start..end]
+}
+
+fn kind_of(source: &[u8], rest: &[Token]) -> Terminal
+    ensures { result ≡ spec.kind (lexemes source.now rest.now) }
+{
+    match rest {
+        [] => Terminal::End,
+        [token, ..] => terminal_of(token.kind, text_of(source, token)),
+    }
 }
 
 /// The value of a number's text, 0 for a text that is none.
@@ -55,17 +67,18 @@ impl<'a> Cursor<'a> {
         requires { length rest.now ≤ 2 ^ 31 }
         ensures { result ≡ lexemes source.now rest.now }
     {
-        Cursor { source, rest }
+        Cursor {
+            source,
+            rest,
+            kind: kind_of(source, rest),
+        }
     }
 
     /// What the next token is.
     pub fn kind(&self) -> Terminal
         ensures { result ≡ spec.kind self.now }
     {
-        match self.rest {
-            [] => Terminal::End,
-            [token, ..] => terminal_of(token.kind, text_of(self.source, token)),
-        }
+        self.kind
     }
 
     /// Where the next token stands.
@@ -103,6 +116,7 @@ impl<'a> Cursor<'a> {
         let loc = self.loc();
         if let [_, rest @ ..] = self.rest {
             self.rest = rest;
+            self.kind = kind_of(self.source, rest);
         }
         loc
     }

@@ -1,6 +1,5 @@
-use Rattle.std.proofs.Common.{rules, ◌≡◌, ◌≢◌, ◌∙◌, sym, ap, length, arith}
+use Rattle.std.proofs.Common.{rules, ◌≢◌, length, arith}
 use Rattle.std.proofs.lemmas.Grind.{common_steps}
-use Rattle.py_parse.specs.Trees.{trailed}
 use Rattle.py_parse.proofs.Trailers.{trailed_primary}
 use Rattle.py_parse.proofs.operand.trailed.Goals as goal
 
