@@ -10,7 +10,7 @@ use Rattle.py_parse.specs.Parsed.{IsTree, IsRefusal, IsOnly, Halves}
 use Rattle.py_parse.specs.Parser.{Outcome}
 use Rattle.py_parse.proofs.FollowModules.{AtEnd, parts_end, parts_follow}
 use Rattle.py_parse.proofs.ReadModules.{reads}
-use Rattle.py_parse.proofs.Prefix.{Sound, Complete, sound_by, has_tree, has_refusal, has_only}
+use Rattle.py_parse.proofs.Prefix.{Sound, Complete, sound_by, has_tree, has_refusal, has_only, one_module}
 
 sound : Sound
 sound = sound_by parts_follow (λ depth ts halves rest e. subst (λ (o : Outcome Halves). AtEnd o) e (parts_end depth ts))
@@ -29,3 +29,6 @@ parse_refused source tokens lexed result h = has_refusal sound complete source t
 pub parse_only : (source : Bytes) (tokens : Tokens) (result : Result Module Stop) → IsDescended source tokens result
     → (m : Module) → IsTree source tokens m → IsOnly m result
 parse_only source tokens result h m is = has_only complete source tokens result h m is
+
+pub one_tree : (source : Bytes) (tokens : Tokens) (m n : Module) → IsTree source tokens m → IsTree source tokens n → m ≡ n
+one_tree source tokens m n is is' = one_module complete source tokens m n is is'

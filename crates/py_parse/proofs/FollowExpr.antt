@@ -40,14 +40,16 @@ end_none n = no_operator (level t.End == n)
 link_more : (table : Terminal → Option BinOp) (R : Grammar Expr) (found : List Link) (all : List Link) (ts : Lexemes)
     → (g.operator table >>= (λ op. R >>= (λ x. Adds (g.many (g.link table R)) (found ++ (op.0, op.1, x) ∷ [])))) all ts
     → Adds (g.many (g.link table R)) found all ts
-link_more table R found all ts (op, a, b, parts, isop, (x, c, e, parts2, isx, (more, all_is, are))) =
-    ((op.0, op.1, x) ∷ more, all_is ∙ append_assoc found ((op.0, op.1, x) ∷ []) more,
-    (a ++ c, e, parts ∙ (ap (λ z. a ++ z) parts2 ∙ sym (append_assoc a c e)), (op, a, c, refl, isop, (x, c, [], sym (append-nil c), isx, (refl, refl))), are))
+link_more table R found all ts (op, a, b, parts, isop, (x, c, e, parts2, isx, (more, all_is, are))) = (
+  (op.0, op.1, x) ∷ more,
+  all_is ∙ append_assoc found ((op.0, op.1, x) ∷ []) more,
+  (a ++ c, e, parts ∙ (ap (λ z. a ++ z) parts2 ∙ sym (append_assoc a c e)), (op, a, c, refl, isop, (x, c, [], sym (append-nil c), isx, (refl, refl))), are),
+)
 
 links_by : (n depth : ℕ) (R : Grammar Expr) (operand : Parser Expr) → ((ts : Lexemes) → Follows R (N (s.Chain n depth) depth ∷ []) ts (operand ts))
     → (again : List Link → Parser (List Link)) (found : List Link) (ts : Lexemes)
     → ((all : List Link) (us : Lexemes) → length us < length ts
-      → Follows (Adds (g.many (g.link (operator_at (suc n)) R)) all) (N (s.Links n) depth ∷ []) us (again all us))
+    → Follows (Adds (g.many (g.link (operator_at (suc n)) R)) all) (N (s.Links n) depth ∷ []) us (again all us))
     → (op : Option BinOp) → operator_at (suc n) (kind ts) ≡ op
     → Follows (Adds (g.many (g.link (operator_at (suc n)) R)) found) (N (s.Links n) depth ∷ []) ts (d.links_by again operand found op ts)
 links_by n depth R operand ho again found ts h (Some op) is =
@@ -133,7 +135,7 @@ one_not : (depth r : ℕ) (inner : Inner) (rx : Grammar Expr) → Inside depth i
     → ((ts : Lexemes) → Follows (g.inverted depth r rx) (N (s.Inverted r) depth ∷ []) ts (d.inverted inner depth r ts))
     → (ts : Lexemes) (k : Terminal) → kind ts ≡ k
     → Follows (g.inverted depth (suc r) rx) (N (s.Inverted (suc r)) depth ∷ []) ts
-      (d.inverted_by (Some (d.inverted inner depth r)) (d.compared inner depth (suc r)) k ts)
+    (d.inverted_by (Some (d.inverted inner depth r)) (d.compared inner depth (suc r)) k ts)
 one_not depth r inner rx hx h ts t.Not is =
     rule_by (ap (row (s.Inverted (suc r)) depth) is) (weaken (λ y us z. inl z)
     (go_on (take is (λ e. absurd cc)) (λ at us _. ending (λ x. e.Not at x) (h us))))
@@ -161,9 +163,11 @@ record Rows (word : Terminal) (operand : Symbol) (rule : Rule) (depth : ℕ) : T
 join_more : (word : Terminal) (R : Grammar Expr) (found : List Join) (all : List Join) (ts : Lexemes)
     → (g.token word >>= (λ at. R >>= (λ x. Adds (g.many (g.join word R)) (found ++ (at, x) ∷ [])))) all ts
     → Adds (g.many (g.join word R)) found all ts
-join_more word R found all ts (at, a, b, parts, tok, (x, c, e, parts2, isx, (more, all_is, are))) =
-    ((at, x) ∷ more, all_is ∙ append_assoc found ((at, x) ∷ []) more,
-    (a ++ c, e, parts ∙ (ap (λ z. a ++ z) parts2 ∙ sym (append_assoc a c e)), (at, a, c, refl, tok, (x, c, [], sym (append-nil c), isx, (refl, refl))), are))
+join_more word R found all ts (at, a, b, parts, tok, (x, c, e, parts2, isx, (more, all_is, are))) = (
+  (at, x) ∷ more,
+  all_is ∙ append_assoc found ((at, x) ∷ []) more,
+  (a ++ c, e, parts ∙ (ap (λ z. a ++ z) parts2 ∙ sym (append_assoc a c e)), (at, a, c, refl, tok, (x, c, [], sym (append-nil c), isx, (refl, refl))), are),
+)
 
 joins_by : (word : Terminal) (symbol : Symbol) (rule : Rule) (depth : ℕ) → Rows word symbol rule depth
     → (R : Grammar Expr) (operand : Parser Expr) → ((ts : Lexemes) → Follows R (symbol ∷ []) ts (operand ts))

@@ -75,7 +75,7 @@ behind item i d again found ts h = behind_by item i d again found ts (same (kind
 after_by : {A : Type 0} (item : Grammar A) (i : Item) (d : ℕ) (again : List A → Parser (List A)) (found : List A) (ts : Lexemes) (k : Terminal) → kind ts ≡ k
     → ((us : Lexemes) → length us < length ts → Follows (Adds (g.some item) found) (N (Items i) d ∷ []) us (again found us))
     → Follows (Adds (g.rest item) found) (N (Comma i) d ∷ []) ts
-      (and_then (if same k t.Comma then Ok (true, next ts) else Ok (false, ts)) (λ more. if more then p.behind_comma (close_of i) again found else p.pure found))
+    (and_then (if same k t.Comma then Ok (true, next ts) else Ok (false, ts)) (λ more. if more then p.behind_comma (close_of i) again found else p.pure found))
 unfolding same
 after_by item i d again found ts t.Comma is h =
     rule_by (ap (row (Comma i) d) is)
@@ -87,7 +87,7 @@ after_by item i d again found ts _ is h =
 after : {A : Type 0} (item : Grammar A) (i : Item) (d : ℕ) (again : List A → Parser (List A)) (found : List A) (ts : Lexemes)
     → ((us : Lexemes) → length us < length ts → Follows (Adds (g.some item) found) (N (Items i) d ∷ []) us (again found us))
     → Follows (Adds (g.rest item) found) (N (Comma i) d ∷ []) ts
-      (and_then (p.comma ts) (λ more. if more then p.behind_comma (close_of i) again found else p.pure found))
+    (and_then (p.comma ts) (λ more. if more then p.behind_comma (close_of i) again found else p.pure found))
 unfolding p.comma
 after item i d again found ts h = after_by item i d again found ts (kind ts) refl h
 
@@ -100,7 +100,7 @@ some_from item i d parser h zero found ts lt = absurd (omega arith)
 some_from item i d parser h (suc n) found ts lt =
     rule_by refl (weaken (λ all us r. some_is item found all us r)
     (go_on (h ts) (λ x us tk. after item i d (p.some_from (close_of i) parser n) (found ++ x ∷ []) us
-      (λ vs shorter. some_from item i d parser h n (found ++ x ∷ []) vs (let le = no_longer tk in omega arith)))))
+    (λ vs shorter. some_from item i d parser h n (found ++ x ∷ []) vs (let le = no_longer tk in omega arith)))))
 
 -- one item or more, after those that were found
 pub some_follows : {A : Type 0} (item : Grammar A) (i : Item) (d : ℕ) (parser : Parser A)
@@ -132,10 +132,10 @@ listed_items item i d parser h ts = weaken (λ all us r. from_none (g.listed ite
 until_by : {A : Type 0} (item : Grammar A) (d : ℕ) (parser : Parser A) (again : List A → Parser (List A)) (found : List A) (ts : Lexemes)
     → Follows item (N Stmt d ∷ []) ts (parser ts)
     → ((x : A) (us : Lexemes) → Takes item (N Stmt d ∷ []) ts x us
-      → Follows (Adds (g.many item) (found ++ x ∷ [])) (N Stmts d ∷ []) us (again (found ++ x ∷ []) us))
+    → Follows (Adds (g.many item) (found ++ x ∷ [])) (N Stmts d ∷ []) us (again (found ++ x ∷ []) us))
     → (k : Terminal) → kind ts ≡ k
     → Follows (Adds (g.many item) found) (N Stmts d ∷ []) ts
-      ((if same k t.Dedent then p.pure found else (λ ts. and_then (parser ts) (λ x. again (found ++ x ∷ [])))) ts)
+    ((if same k t.Dedent then p.pure found else (λ ts. and_then (parser ts) (λ x. again (found ++ x ∷ [])))) ts)
 unfolding same
 until_by item d parser again found ts h k t.Dedent is = rule_by (ap (row Stmts d) is) (no_more found)
 until_by item d parser again found ts h k _ is = rule_by (ap (row Stmts d) is) (one_more found (go_on h k))

@@ -218,7 +218,7 @@ named ts = name_by ts (same (kind ts) t.Name) refl
 -- a value made of a number whose place is asked for no more
 numbered_by : {B : Type 0} (f : ℤ → B) (ts : Lexemes) (b : Bool) → same (kind ts) t.Number ≡ b
     → Follows (g.number >>= (λ n. g.gives (f n.0))) (T t.Number ∷ []) ts
-      (and_then (if b then Ok (pos (value_of (spelling ts)), next ts) else Err ts) (λ n us. Ok (f n, us)))
+    (and_then (if b then Ok (pos (value_of (spelling ts)), next ts) else Err ts) (λ n us. Ok (f n, us)))
 unfolding same
 numbered_by f ts true e = ending (λ n. f n.0) (take_number (same_true the_type tt (kind ts) t.Number e))
 numbered_by f ts false e = record { fate = λ K. refused_token ts t.Number K e }

@@ -14,6 +14,7 @@ pub mod FollowModules
 pub mod Machine
 pub mod Plain
 pub mod Prefix
+pub mod OneRefusal
 pub mod Clauses
 pub mod ReadLines
 pub mod ReadBlocks

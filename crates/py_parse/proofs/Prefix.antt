@@ -181,6 +181,12 @@ same_module m n halves notes =
     let R : Halves → List Note → Module = λ h z. record { imports = h.0; functions = h.1; notes = z } in
     ap (λ (h : Halves). R h m.notes) halves ∙ ap (R (n.imports, n.functions)) notes
 
+-- a source and its tokens have one tree at the most
+pub one_module : Complete → (source : Bytes) (tokens : Tokens) (m n : Module) → IsTree source tokens m → IsTree source tokens n → m ≡ n
+one_module complete source tokens m n is is' =
+    same_module m n (one_tree complete levels (m.imports, m.functions) (n.imports, n.functions) (lexemes source tokens.tokens) is.grammar is'.grammar)
+    (is.notes ∙ sym is'.notes)
+
 pub has_only : Complete → (source : Bytes) (tokens : Tokens) (result : Result Module Stop) → IsDescended source tokens result
     → (m : Module) → IsTree source tokens m → IsOnly m result
 has_only complete source tokens (Ok x) h m is =

@@ -203,12 +203,3 @@ parts_read depth halves used rest (xs, a, b, p1, are, (halves_is, b_is)) ends =
 
 pub reads : (depth : ℕ) (halves : Halves) (ts : Lexemes) → IsModule depth halves ts → (rest : Lexemes) × (parts depth ts ≡ Ok (halves, rest))
 reads depth halves ts (used, rest, p1, is, ends) = (rest, ap (parts depth) p1 ∙ parts_read depth halves used rest is ends)
-
--- Lexemes are one module at most.
-pub one_tree : (depth : ℕ) (x y : Halves) (ts : Lexemes) → IsModule depth x ts → IsModule depth y ts → x ≡ y
-one_tree depth x y ts isx isy =
-    let first = reads depth x ts isx in
-    let second = reads depth y ts isy in
-    let pairs : pure x first.0 ≡ pure y second.0 = sym first.1 ∙ second.1 in
-    let alike : (x, first.0) ≡ (y, second.0) = cc in
-    ap (λ (z : Parts × Lexemes). z.0) alike

@@ -1,7 +1,9 @@
 ghost use Rattle.std.specs.Prelude.{IfOk, IfErr};
 ghost use Rattle.py_lex.specs.Lexed.{IsLexed};
 ghost use Rattle.py_parse.specs.Descended.{IsDescended};
-ghost use Rattle.py_parse.specs.Parsed.{IsTree, IsRefusal, IsOnly};
+ghost use Rattle.krn_base.specs.declared.refusal.Refusal.{Refusal};
+ghost use Rattle.krn_base.specs.declared.refusal.Stop.TheVariants as stop;
+ghost use Rattle.py_parse.specs.Parsed.{IsTree, IsRefusal, IsOnly, IsOnlyRefusal};
 ghost use Rattle.py_parse.specs.declared.tree.Module.{Module};
 
 use crate::tree::Module;
@@ -19,12 +21,13 @@ fn descend(_alloc: Global, _source: &[u8], _tokens: &Tokens) -> Result<Module, S
 ///
 /// The answer is the one tree that the grammar gives; [`Stop::Refused`] by `Rule::Syntax`, exactly where it gives none, at the first
 /// token that can't stand where it does or that opens the 65th level; or [`Stop::Memory`]. The tokens are read in one pass.
-#[tactic(auto, using(crate::proofs::Clauses::parse_tree, crate::proofs::Clauses::parse_refused, crate::proofs::Clauses::parse_only))]
+#[tactic(auto, using(crate::proofs::Clauses::parse_tree, crate::proofs::Clauses::parse_refused, crate::proofs::Clauses::parse_only, crate::proofs::OneRefusal::only_refusal))]
 pub fn parse(alloc: Global, source: &[u8], tokens: &Tokens) -> Result<Module, Stop>
     requires { IsLexed source.now tokens.now }
     ensures tree { IfOk result (λ m. IsTree source.now tokens.now m) }
     ensures refused { IfErr result (IsRefusal source.now tokens.now) }
     ensures only { (m : Module) → IsTree source.now tokens.now m → IsOnly m result }
+    ensures place { (r : Refusal) → IsRefusal source.now tokens.now (stop.Refused r) → IsOnlyRefusal r result }
 {
     descend(alloc, source, tokens)
 }
