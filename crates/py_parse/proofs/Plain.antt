@@ -61,7 +61,7 @@ plain (N rule d ∷ K) = map plain_lexeme (word rule) ++ plain K
 
 -- ---- what may follow a rule in the plain completion
 
--- the levels at which a block may be due behind its Newline: each, or those that leave one
+-- the levels at which the rest of a block behind its Newline may stand on a stack: each, or all but the last, which leaves none for it
 abbrev pub Each : ℕ → Type 0
 Each d = Unit {0}
 
@@ -160,7 +160,7 @@ item_good L Element d K f g = (ap closes f, (f, g))
 item_good L Argument d K f g = (f, (f, g))
 item_good L Subscript d K f g = (f, (f, g))
 
--- what comes with a block that begins with a Newline is given
+-- one row alone makes the rest of a block behind its Newline, whose level is given
 pub keeps : (L : ℕ → Type 0) (rule : Rule) (d : ℕ) (k : Terminal) (K : Stack) → Fits L rule d (kind (plain K)) → Good L K
     → (rule ≡ Block → k ≡ t.Newline → L d) → GoodRow L (row rule d k) K
 keeps L Expr d k K f g l = (f, (f, g))
@@ -571,13 +571,13 @@ eats Tail d K ts f = skip (ap (row Tail d) f)
 eats Alias d K ts f = expand (T t.Newline ∷ []) refl (eat refl stay)
 eats Parts d K ts f = skip (ap (row Parts d) f)
 
--- a stack on which no block is due without a level accepts its plain completion
+-- a stack on which each block has a level accepts its plain completion
 pub completes : (K : Stack) → Good Leaves K → Accepts K (plain K)
 completes [] good = (1, ap (λ (b : Bool). if b then Accepted else Refused []) (same_self t.End))
 completes (T k ∷ K) good = accepts_on (eat refl stay) (completes K good.1)
 completes (N rule d ∷ K) good = accepts_on (eats rule d K (plain K) good.0) (completes K good.1)
 
--- with one level more each block has one
+-- with one level more each block has a level
 
 raised_word : (rule : Rule) → word (raised_rule rule) ≡ word rule
 raised_word Expr = refl
@@ -589,15 +589,15 @@ raised_plain (T k ∷ K) = ap (λ z. plain_lexeme k ∷ z) (raised_plain K)
 raised_plain (N rule d ∷ K) =
     ap (λ z. map plain_lexeme z ++ plain (map raised K)) (raised_word rule) ∙ ap (λ z. map plain_lexeme (word rule) ++ z) (raised_plain K)
 
-raised_fits : (L : ℕ → Type 0) (rule : Rule) (d : ℕ) (f : Terminal) → Fits L rule d f → Fits Leaves (raised_rule rule) (suc d) f
-raised_fits L Indented d f fits = λ e. absurd cc
-raised_fits L _ d f fits = fits
+raised_fits : (rule : Rule) (d : ℕ) (f : Terminal) → Fits Leaves rule d f → Fits Leaves (raised_rule rule) (suc d) f
+raised_fits Indented d f fits = λ e. absurd cc
+raised_fits _ d f fits = fits
 
-raised_good : (L : ℕ → Type 0) (K : Stack) → Good L K → Good Leaves (map raised K)
-raised_good L [] good = tt
-raised_good L (T k ∷ K) good = (good.0, raised_good L K good.1)
-raised_good L (N rule d ∷ K) good =
-    (raised_fits L rule d (kind (plain (map raised K))) (subst (λ z. Fits L rule d (kind z)) (sym (raised_plain K)) good.0), raised_good L K good.1)
+raised_good : (K : Stack) → Good Leaves K → Good Leaves (map raised K)
+raised_good [] good = tt
+raised_good (T k ∷ K) good = (good.0, raised_good K good.1)
+raised_good (N rule d ∷ K) good =
+    (raised_fits rule d (kind (plain (map raised K))) (subst (λ z. Fits Leaves rule d (kind z)) (sym (raised_plain K)) good.0), raised_good K good.1)
 
 -- ---- what stands before a refused lexeme goes on to what is accepted
 
@@ -615,11 +615,11 @@ go_row : {A : Type 0} (o : Option Stack) (f : Stack → Verdict) (x : Lexeme) (u
 go_row (Some s) f x u rest go e = go s refl e
 go_row None f x u rest go e = too_soon x u rest e
 
--- a stack of which no block is without a level, or such a block is on top
+-- each block on the stack has a level, or the one on top alone has none
 abbrev Due : Stack → Type 0
 Due K = Good Leaves K ⊎ ((L : Stack) × (K ≡ N Indented zero ∷ L) × Good Leaves L)
 
--- what stands before a refused lexeme is taken, with one level more too
+-- the stack takes all these, with one level more too
 record Arrives (stack : Stack) (used : Lexemes) : Type 0 where
   there : Stack
   due : Due there
@@ -647,14 +647,14 @@ expanded rule d s K x u is h = record {
       (subst (λ z. Leads z (x ∷ (u ++ more)) (map raised h.there) more) (raised_append s K) (h.raised_leads more));
 }
 
--- a block that begins with a Newline and has no level, or not
+-- whether it is a block that begins with a Newline and has no level
 block : (rule : Rule) (d : ℕ) (k : Terminal) → ((rule ≡ Block) × (k ≡ t.Newline) × (d ≡ zero)) ⊎ (rule ≡ Block → k ≡ t.Newline → Leaves d)
 block Block zero t.Newline = inl (refl, refl, refl)
 block Block (suc d) t.Newline = inr (λ _ _ e. absurd cc)
 block Block d _ = inr (λ _ e _. absurd cc)
 block _ d k = inr (λ e _ _. absurd cc)
 
--- of such a block nothing but the Newline is taken
+-- behind the Newline of such a block nothing is taken
 nothing_more : (n : ℕ) (K : Stack) (u rest : Lexemes) → Good Leaves K → run n (N Indented zero ∷ K) (u ++ rest) ≡ Refused rest
     → Arrives (N Indented zero ∷ K) u
 nothing_more zero K u rest good e = absurd cc
@@ -724,8 +724,7 @@ viable_by depth used h (inr (K, is, good)) =
     inr (record {
       none = λ more.
           no_way (N Parts depth ∷ []) K (used ++ more) more (subst (λ z. Leads (N Parts depth ∷ []) (used ++ more) z more) is (h.leads more));
-      one_more =
-          (plain there, accepts_on (leads (plain there)) (completes there ((λ e. absurd cc), raised_good Leaves K good)));
+      one_more = (plain there, accepts_on (leads (plain there)) (completes there ((λ e. absurd cc), raised_good K good)));
       indent = λ more accepts.
           next_indent (N Parts (suc depth) ∷ []) (map raised K) (used ++ more) more (leads more) accepts (same (kind more) t.Indent) refl;
     })
