@@ -1,5 +1,6 @@
--- A plain completion of every stack that a module's rows make, and that the stack with one level more takes it.
-use Rattle.std.proofs.Common.{◌≡◌, ℕ, zero, suc, ◌+◌, ◌==◌, Bool, true, false, List, [], ◌∷◌, ◌++◌, map, length, Option, Some, None, refl, ap, sym, subst, ◌∙◌, append_assoc, arith, if◌then◌else◌}
+-- A plain completion of every stack that a module's rows make. The stack takes it, unless it has come to a block for which no level is
+-- left; the stack with one level more takes it then.
+use Rattle.std.proofs.Common.{◌≡◌, ℕ, zero, suc, ◌+◌, ◌==◌, ◌⊎◌, inl, inr, Bool, true, false, List, [], ◌∷◌, ◌++◌, map, length, Option, Some, None, refl, ap, sym, subst, ◌∙◌, append_assoc, arith, if◌then◌else◌}
 use Rattle.py_parse.specs.declared.terminal.Terminal.{Terminal}
 use Rattle.py_parse.specs.declared.terminal.Terminal.TheVariants as t
 use Rattle.py_parse.specs.Lexemes.{Lexeme, Lexemes, same}
@@ -7,7 +8,7 @@ use Rattle.py_parse.specs.Parser.{kind, next}
 use Rattle.py_parse.specs.Trees.{operator_at, comparison, augmented, sign, binary, level}
 use Rattle.py_parse.specs.Stack.{Symbol, Stack, Rule, T, N, Item, Param, Value, Element, Argument, Subscript, Expr, Ors, Conjunction, Ands, Inverted, Compared, Comparison, Chain, Links, Unary, Power, Exponent, Primary, Atom, Parenthesis, Trailers, Arg, Keyed, Subscripted, Sliced, Cut, Bound, Step, Items, More, Comma, Simple, Stored, Line, Block, Indented, Stmts, Stmt, Tail, Alias, Parts, row, deeper, with_operator, signed_row, close_of, item_symbol, run, by_row, Verdict, Accepted, Refused, Unfinished, RefusedAt}
 use Rattle.py_parse.proofs.Follows.{Leads}
-use Rattle.py_parse.proofs.Machine.{same_self, one_kind, Accepts, EndsWith, refused_same, too_soon, stay, then_on, expand, skip, eat, accepts_on}
+use Rattle.py_parse.proofs.Machine.{same_self, one_kind, Accepts, EndsWith, not_both, refused_same, too_soon, stay, then_on, expand, skip, eat, accepts_on}
 
 -- ---- plain completions
 
@@ -60,6 +61,13 @@ plain (N rule d ∷ K) = map plain_lexeme (word rule) ++ plain K
 
 -- ---- what may follow a rule in the plain completion
 
+-- the levels at which the rest of a block behind its Newline may stand on a stack: each, or all but the last, which leaves none for it
+abbrev pub Each : ℕ → Type 0
+Each d = Unit {0}
+
+abbrev pub Leaves : ℕ → Type 0
+Leaves d = d ≡ zero → ⊥
+
 -- what closes an expression
 abbrev pub closes : Terminal → Bool
 closes t.CloseParen = true
@@ -68,63 +76,64 @@ closes t.Newline = true
 closes t.Colon = true
 closes _ = false
 
-abbrev pub Fits : Rule → Terminal → Type 0
-Fits Expr f = closes f ≡ true
-Fits Ors f = closes f ≡ true
-Fits Conjunction f = closes f ≡ true
-Fits Ands f = closes f ≡ true
-Fits (Inverted e) f = closes f ≡ true
-Fits (Compared e) f = closes f ≡ true
-Fits Comparison f = closes f ≡ true
-Fits (Chain n e) f = closes f ≡ true
-Fits (Links n) f = closes f ≡ true
-Fits (Unary e) f = closes f ≡ true
-Fits (Power e) f = closes f ≡ true
-Fits Exponent f = closes f ≡ true
-Fits (Primary e) f = closes f ≡ true
-Fits (Atom e) f = closes f ≡ true
-Fits Parenthesis f = Unit {0}
-Fits Trailers f = closes f ≡ true
-Fits Arg f = f ≡ t.CloseParen
-Fits Keyed f = f ≡ t.CloseParen
-Fits Subscripted f = f ≡ t.CloseBracket
-Fits Sliced f = f ≡ t.CloseBracket
-Fits Cut f = f ≡ t.CloseBracket
-Fits Bound f = f ≡ t.CloseBracket
-Fits Step f = f ≡ t.CloseBracket
-Fits (Items item) f = f ≡ close_of item
-Fits (More item) f = f ≡ close_of item
-Fits (Comma item) f = f ≡ close_of item
-Fits Simple f = f ≡ t.Newline
-Fits Stored f = f ≡ t.Newline
-Fits Line f = Unit {0}
-Fits Block f = Unit {0}
-Fits Indented f = Unit {0}
-Fits Stmts f = f ≡ t.Dedent
-Fits Stmt f = f ≡ t.Dedent
-Fits Tail f = f ≡ t.Dedent
-Fits Alias f = Unit {0}
-Fits Parts f = f ≡ t.End
+abbrev pub Fits : (ℕ → Type 0) → Rule → ℕ → Terminal → Type 0
+Fits L Expr d f = closes f ≡ true
+Fits L Ors d f = closes f ≡ true
+Fits L Conjunction d f = closes f ≡ true
+Fits L Ands d f = closes f ≡ true
+Fits L (Inverted e) d f = closes f ≡ true
+Fits L (Compared e) d f = closes f ≡ true
+Fits L Comparison d f = closes f ≡ true
+Fits L (Chain n e) d f = closes f ≡ true
+Fits L (Links n) d f = closes f ≡ true
+Fits L (Unary e) d f = closes f ≡ true
+Fits L (Power e) d f = closes f ≡ true
+Fits L Exponent d f = closes f ≡ true
+Fits L (Primary e) d f = closes f ≡ true
+Fits L (Atom e) d f = closes f ≡ true
+Fits L Parenthesis d f = Unit {0}
+Fits L Trailers d f = closes f ≡ true
+Fits L Arg d f = f ≡ t.CloseParen
+Fits L Keyed d f = f ≡ t.CloseParen
+Fits L Subscripted d f = f ≡ t.CloseBracket
+Fits L Sliced d f = f ≡ t.CloseBracket
+Fits L Cut d f = f ≡ t.CloseBracket
+Fits L Bound d f = f ≡ t.CloseBracket
+Fits L Step d f = f ≡ t.CloseBracket
+Fits L (Items item) d f = f ≡ close_of item
+Fits L (More item) d f = f ≡ close_of item
+Fits L (Comma item) d f = f ≡ close_of item
+Fits L Simple d f = f ≡ t.Newline
+Fits L Stored d f = f ≡ t.Newline
+Fits L Line d f = Unit {0}
+Fits L Block d f = Unit {0}
+Fits L Indented d f = L d
+Fits L Stmts d f = f ≡ t.Dedent
+Fits L Stmt d f = f ≡ t.Dedent
+Fits L Tail d f = f ≡ t.Dedent
+Fits L Alias d f = Unit {0}
+Fits L Parts d f = f ≡ t.End
 
 -- no terminal is the end, and each rule is followed by what may follow it
-abbrev pub Good : Stack → Type 0
-Good [] = Unit {0}
-Good (T k ∷ K) = (k ≡ t.End → ⊥) × Good K
-Good (N rule d ∷ K) = Fits rule (kind (plain K)) × Good K
+abbrev pub Good : (ℕ → Type 0) → Stack → Type 0
+Good L [] = Unit {0}
+Good L (T k ∷ K) = (k ≡ t.End → ⊥) × Good L K
+Good L (N rule d ∷ K) = Fits L rule d (kind (plain K)) × Good L K
 
-abbrev pub GoodRow : Option Stack → Stack → Type 0
-GoodRow None K = Unit {0}
-GoodRow (Some s) K = Good (s ++ K)
+abbrev pub GoodRow : (ℕ → Type 0) → Option Stack → Stack → Type 0
+GoodRow L None K = Unit {0}
+GoodRow L (Some s) K = Good L (s ++ K)
 
 -- ---- rows keep it
 
-operated : {A : Type 0} (o : Option A) (s K : Stack) → ((x : A) → o ≡ Some x → Good (s ++ K)) → Good K → GoodRow (with_operator o s) K
-operated (Some x) s K with_it without = with_it x refl
-operated None s K with_it without = without
+operated : {A : Type 0} (L : ℕ → Type 0) (o : Option A) (s K : Stack) → ((x : A) → o ≡ Some x → Good L (s ++ K)) → Good L K
+    → GoodRow L (with_operator o s) K
+operated L (Some x) s K with_it without = with_it x refl
+operated L None s K with_it without = without
 
-chosen : (b : Bool) (s r K : Stack) → Good (s ++ K) → Good (r ++ K) → GoodRow (if b then Some s else Some r) K
-chosen true s r K first second = first
-chosen false s r K first second = second
+chosen : (L : ℕ → Type 0) (b : Bool) (s r K : Stack) → Good L (s ++ K) → Good L (r ++ K) → GoodRow L (if b then Some s else Some r) K
+chosen L true s r K first second = first
+chosen L false s r K first second = second
 
 no_sign : (k : Terminal) (x : ℕ) → sign k ≡ Some x → k ≡ t.End → ⊥
 no_sign k x e end = let h : None ≡ Some x = sym (ap sign end) ∙ e in absurd cc
@@ -137,108 +146,111 @@ no_operator : (n : ℕ) → operator_at (suc n) t.End ≡ None
 unfolding operator_at
 no_operator n = either (0 == suc n) None
 
-signed_good : (o : Option ℕ) (k : Terminal) (e d : ℕ) (K : Stack) → ((x : ℕ) → o ≡ Some x → k ≡ t.End → ⊥) → closes (kind (plain K)) ≡ true → Good K
-    → GoodRow (signed_row o k e d) K
-signed_good (Some x) k zero d K end f g = tt
-signed_good (Some x) k (suc e) d K end f g = (end x refl, (f, g))
-signed_good None k e d K end f g = (f, g)
+signed_good : (L : ℕ → Type 0) (o : Option ℕ) (k : Terminal) (e d : ℕ) (K : Stack) → ((x : ℕ) → o ≡ Some x → k ≡ t.End → ⊥)
+    → closes (kind (plain K)) ≡ true → Good L K → GoodRow L (signed_row o k e d) K
+signed_good L (Some x) k zero d K end f g = tt
+signed_good L (Some x) k (suc e) d K end f g = (end x refl, (f, g))
+signed_good L None k e d K end f g = (f, g)
 
-item_good : (item : Item) (d : ℕ) (K : Stack) → kind (plain K) ≡ close_of item → Good K → Good (item_symbol item d ∷ N (Comma item) d ∷ K)
-item_good Param d K f g = ((λ e. absurd cc), (f, g))
-item_good Value d K f g = (ap closes f, (f, g))
-item_good Element d K f g = (ap closes f, (f, g))
-item_good Argument d K f g = (f, (f, g))
-item_good Subscript d K f g = (f, (f, g))
+item_good : (L : ℕ → Type 0) (item : Item) (d : ℕ) (K : Stack) → kind (plain K) ≡ close_of item → Good L K
+    → Good L (item_symbol item d ∷ N (Comma item) d ∷ K)
+item_good L Param d K f g = ((λ e. absurd cc), (f, g))
+item_good L Value d K f g = (ap closes f, (f, g))
+item_good L Element d K f g = (ap closes f, (f, g))
+item_good L Argument d K f g = (f, (f, g))
+item_good L Subscript d K f g = (f, (f, g))
 
-pub keeps : (rule : Rule) (d : ℕ) (k : Terminal) (K : Stack) → Fits rule (kind (plain K)) → Good K → GoodRow (row rule d k) K
-keeps Expr d k K f g = (f, (f, g))
-keeps Ors d t.Or K f g = ((λ e. absurd cc), (f, (f, g)))
-keeps Ors d _ K f g = g
-keeps Conjunction d k K f g = (f, (f, g))
-keeps Ands d t.And K f g = ((λ e. absurd cc), (f, (f, g)))
-keeps Ands d _ K f g = g
-keeps (Inverted zero) d t.Not K f g = tt
-keeps (Inverted (suc e)) d t.Not K f g = ((λ e. absurd cc), (f, g))
-keeps (Inverted e) d _ K f g = (f, g)
-keeps (Compared e) d k K f g = (f, (f, g))
-keeps Comparison d k K f g =
-    operated (comparison k) (T k ∷ N (Chain 6 d) d ∷ []) K
+-- one row alone makes the rest of a block behind its Newline, whose level is given
+pub keeps : (L : ℕ → Type 0) (rule : Rule) (d : ℕ) (k : Terminal) (K : Stack) → Fits L rule d (kind (plain K)) → Good L K
+    → (rule ≡ Block → k ≡ t.Newline → L d) → GoodRow L (row rule d k) K
+keeps L Expr d k K f g l = (f, (f, g))
+keeps L Ors d t.Or K f g l = ((λ e. absurd cc), (f, (f, g)))
+keeps L Ors d _ K f g l = g
+keeps L Conjunction d k K f g l = (f, (f, g))
+keeps L Ands d t.And K f g l = ((λ e. absurd cc), (f, (f, g)))
+keeps L Ands d _ K f g l = g
+keeps L (Inverted zero) d t.Not K f g l = tt
+keeps L (Inverted (suc e)) d t.Not K f g l = ((λ e. absurd cc), (f, g))
+keeps L (Inverted e) d _ K f g l = (f, g)
+keeps L (Compared e) d k K f g l = (f, (f, g))
+keeps L Comparison d k K f g l =
+    operated L (comparison k) (T k ∷ N (Chain 6 d) d ∷ []) K
     (λ x is. ((λ (end : k ≡ t.End). let h : None ≡ Some x = sym (ap comparison end) ∙ is in absurd cc), (f, g))) g
-keeps (Chain zero e) d k K f g = (f, g)
-keeps (Chain (suc n) e) d k K f g = (f, (f, g))
-keeps (Links n) d k K f g =
-    operated (operator_at (suc n) k) (T k ∷ N (Chain n d) d ∷ N (Links n) d ∷ []) K
+keeps L (Chain zero e) d k K f g l = (f, g)
+keeps L (Chain (suc n) e) d k K f g l = (f, (f, g))
+keeps L (Links n) d k K f g l =
+    operated L (operator_at (suc n) k) (T k ∷ N (Chain n d) d ∷ N (Links n) d ∷ []) K
     (λ x is. ((λ (end : k ≡ t.End). let h : None ≡ Some x = sym (no_operator n) ∙ (sym (ap (operator_at (suc n)) end) ∙ is) in absurd cc), (f, (f, g)))) g
-keeps (Unary e) d k K f g = signed_good (sign k) k e d K (no_sign k) f g
-keeps (Power e) d k K f g = (f, (f, g))
-keeps Exponent d t.Power K f g = ((λ e. absurd cc), ((λ e. absurd cc), g))
-keeps Exponent d _ K f g = g
-keeps (Primary e) d k K f g = (f, (f, g))
-keeps (Atom e) d t.Name K f g = ((λ e. absurd cc), g)
-keeps (Atom e) d t.Number K f g = ((λ e. absurd cc), g)
-keeps (Atom e) d t.True K f g = ((λ e. absurd cc), g)
-keeps (Atom e) d t.False K f g = ((λ e. absurd cc), g)
-keeps (Atom zero) d t.OpenParen K f g = tt
-keeps (Atom (suc e)) zero t.OpenParen K f g = tt
-keeps (Atom (suc e)) (suc d) t.OpenParen K f g = ((λ e. absurd cc), (refl, (tt, g)))
-keeps (Atom e) d _ K f g = tt
-keeps Parenthesis d t.Comma K f g = ((λ e. absurd cc), (refl, ((λ e. absurd cc), g)))
-keeps Parenthesis d _ K f g = ((λ e. absurd cc), g)
-keeps Trailers zero t.OpenParen K f g = tt
-keeps Trailers (suc d) t.OpenParen K f g = ((λ e. absurd cc), (refl, ((λ e. absurd cc), (f, g))))
-keeps Trailers zero t.OpenBracket K f g = tt
-keeps Trailers (suc d) t.OpenBracket K f g = ((λ e. absurd cc), (refl, ((λ e. absurd cc), (f, g))))
-keeps Trailers d t.Dot K f g = ((λ e. absurd cc), ((λ e. absurd cc), (f, g)))
-keeps Trailers d _ K f g = g
-keeps Arg d k K f g = (ap closes f, (f, g))
-keeps Keyed d t.Assign K f g = ((λ e. absurd cc), (ap closes f, g))
-keeps Keyed d _ K f g = g
-keeps Subscripted d t.Colon K f g = (f, g)
-keeps Subscripted d _ K f g = (ap closes f, (f, g))
-keeps Sliced d t.Colon K f g = (f, g)
-keeps Sliced d _ K f g = g
-keeps Cut d k K f g = ((λ e. absurd cc), (f, (f, g)))
-keeps Bound d t.Colon K f g = g
-keeps Bound d t.Comma K f g = g
-keeps Bound d t.CloseBracket K f g = g
-keeps Bound d _ K f g = (ap closes f, g)
-keeps Step d t.Colon K f g = ((λ e. absurd cc), (f, g))
-keeps Step d _ K f g = g
-keeps (Items item) d k K f g = item_good item d K f g
-keeps (More item) d k K f g = chosen (same k (close_of item)) [] (N (Items item) d ∷ []) K g (f, g)
-keeps (Comma item) d t.Comma K f g = ((λ e. absurd cc), (f, g))
-keeps (Comma item) d _ K f g = g
-keeps Simple d t.Text K f g = ((λ e. absurd cc), g)
-keeps Simple d t.Pass K f g = ((λ e. absurd cc), g)
-keeps Simple d t.Return K f g = ((λ e. absurd cc), (f, g))
-keeps Simple d t.Name K f g = ((λ e. absurd cc), (ap closes f, (f, g)))
-keeps Simple d _ K f g = tt
-keeps Stored d t.Assign K f g = ((λ e. absurd cc), (ap closes f, g))
-keeps Stored d k K f g =
-    operated (augmented k) (T k ∷ N Expr d ∷ []) K
+keeps L (Unary e) d k K f g l = signed_good L (sign k) k e d K (no_sign k) f g
+keeps L (Power e) d k K f g l = (f, (f, g))
+keeps L Exponent d t.Power K f g l = ((λ e. absurd cc), ((λ e. absurd cc), g))
+keeps L Exponent d _ K f g l = g
+keeps L (Primary e) d k K f g l = (f, (f, g))
+keeps L (Atom e) d t.Name K f g l = ((λ e. absurd cc), g)
+keeps L (Atom e) d t.Number K f g l = ((λ e. absurd cc), g)
+keeps L (Atom e) d t.True K f g l = ((λ e. absurd cc), g)
+keeps L (Atom e) d t.False K f g l = ((λ e. absurd cc), g)
+keeps L (Atom zero) d t.OpenParen K f g l = tt
+keeps L (Atom (suc e)) zero t.OpenParen K f g l = tt
+keeps L (Atom (suc e)) (suc d) t.OpenParen K f g l = ((λ e. absurd cc), (refl, (tt, g)))
+keeps L (Atom e) d _ K f g l = tt
+keeps L Parenthesis d t.Comma K f g l = ((λ e. absurd cc), (refl, ((λ e. absurd cc), g)))
+keeps L Parenthesis d _ K f g l = ((λ e. absurd cc), g)
+keeps L Trailers zero t.OpenParen K f g l = tt
+keeps L Trailers (suc d) t.OpenParen K f g l = ((λ e. absurd cc), (refl, ((λ e. absurd cc), (f, g))))
+keeps L Trailers zero t.OpenBracket K f g l = tt
+keeps L Trailers (suc d) t.OpenBracket K f g l = ((λ e. absurd cc), (refl, ((λ e. absurd cc), (f, g))))
+keeps L Trailers d t.Dot K f g l = ((λ e. absurd cc), ((λ e. absurd cc), (f, g)))
+keeps L Trailers d _ K f g l = g
+keeps L Arg d k K f g l = (ap closes f, (f, g))
+keeps L Keyed d t.Assign K f g l = ((λ e. absurd cc), (ap closes f, g))
+keeps L Keyed d _ K f g l = g
+keeps L Subscripted d t.Colon K f g l = (f, g)
+keeps L Subscripted d _ K f g l = (ap closes f, (f, g))
+keeps L Sliced d t.Colon K f g l = (f, g)
+keeps L Sliced d _ K f g l = g
+keeps L Cut d k K f g l = ((λ e. absurd cc), (f, (f, g)))
+keeps L Bound d t.Colon K f g l = g
+keeps L Bound d t.Comma K f g l = g
+keeps L Bound d t.CloseBracket K f g l = g
+keeps L Bound d _ K f g l = (ap closes f, g)
+keeps L Step d t.Colon K f g l = ((λ e. absurd cc), (f, g))
+keeps L Step d _ K f g l = g
+keeps L (Items item) d k K f g l = item_good L item d K f g
+keeps L (More item) d k K f g l = chosen L (same k (close_of item)) [] (N (Items item) d ∷ []) K g (f, g)
+keeps L (Comma item) d t.Comma K f g l = ((λ e. absurd cc), (f, g))
+keeps L (Comma item) d _ K f g l = g
+keeps L Simple d t.Text K f g l = ((λ e. absurd cc), g)
+keeps L Simple d t.Pass K f g l = ((λ e. absurd cc), g)
+keeps L Simple d t.Return K f g l = ((λ e. absurd cc), (f, g))
+keeps L Simple d t.Name K f g l = ((λ e. absurd cc), (ap closes f, (f, g)))
+keeps L Simple d _ K f g l = tt
+keeps L Stored d t.Assign K f g l = ((λ e. absurd cc), (ap closes f, g))
+keeps L Stored d k K f g l =
+    operated L (augmented k) (T k ∷ N Expr d ∷ []) K
     (λ x is. ((λ (end : k ≡ t.End). let h : None ≡ Some x = sym (ap augmented end) ∙ is in absurd cc), (ap closes f, g))) g
-keeps Line d k K f g = (refl, ((λ e. absurd cc), g))
-keeps Block d t.Newline K f g = ((λ e. absurd cc), (tt, g))
-keeps Block d _ K f g = (tt, g)
-keeps Indented zero k K f g = tt
-keeps Indented (suc d) k K f g = ((λ e. absurd cc), (refl, (refl, ((λ e. absurd cc), g))))
-keeps Stmts d t.Dedent K f g = g
-keeps Stmts d _ K f g = (f, (f, g))
-keeps Stmt d t.If K f g = ((λ e. absurd cc), (refl, ((λ e. absurd cc), (tt, (f, g)))))
-keeps Stmt d t.For K f g = ((λ e. absurd cc), ((λ e. absurd cc), ((λ e. absurd cc), (refl, ((λ e. absurd cc), (tt, g))))))
-keeps Stmt d _ K f g = (tt, g)
-keeps Tail zero t.Elif K f g = tt
-keeps Tail (suc d) t.Elif K f g = ((λ e. absurd cc), (refl, ((λ e. absurd cc), (tt, (f, g)))))
-keeps Tail d t.Else K f g = ((λ e. absurd cc), ((λ e. absurd cc), (tt, g)))
-keeps Tail d _ K f g = g
-keeps Alias d t.As K f g = ((λ e. absurd cc), ((λ e. absurd cc), ((λ e. absurd cc), g)))
-keeps Alias d _ K f g = ((λ e. absurd cc), g)
-keeps Parts d t.Import K f g = ((λ e. absurd cc), ((λ e. absurd cc), (tt, (f, g))))
-keeps Parts d t.Def K f g =
+keeps L Line d k K f g l = (refl, ((λ e. absurd cc), g))
+keeps L Block d t.Newline K f g l = ((λ e. absurd cc), (l refl refl, g))
+keeps L Block d _ K f g l = (tt, g)
+keeps L Indented zero k K f g l = tt
+keeps L Indented (suc d) k K f g l = ((λ e. absurd cc), (refl, (refl, ((λ e. absurd cc), g))))
+keeps L Stmts d t.Dedent K f g l = g
+keeps L Stmts d _ K f g l = (f, (f, g))
+keeps L Stmt d t.If K f g l = ((λ e. absurd cc), (refl, ((λ e. absurd cc), (tt, (f, g)))))
+keeps L Stmt d t.For K f g l = ((λ e. absurd cc), ((λ e. absurd cc), ((λ e. absurd cc), (refl, ((λ e. absurd cc), (tt, g))))))
+keeps L Stmt d _ K f g l = (tt, g)
+keeps L Tail zero t.Elif K f g l = tt
+keeps L Tail (suc d) t.Elif K f g l = ((λ e. absurd cc), (refl, ((λ e. absurd cc), (tt, (f, g)))))
+keeps L Tail d t.Else K f g l = ((λ e. absurd cc), ((λ e. absurd cc), (tt, g)))
+keeps L Tail d _ K f g l = g
+keeps L Alias d t.As K f g l = ((λ e. absurd cc), ((λ e. absurd cc), ((λ e. absurd cc), g)))
+keeps L Alias d _ K f g l = ((λ e. absurd cc), g)
+keeps L Parts d t.Import K f g l = ((λ e. absurd cc), ((λ e. absurd cc), (tt, (f, g))))
+keeps L Parts d t.Def K f g l =
     ((λ e. absurd cc), ((λ e. absurd cc), ((λ e. absurd cc), (refl, ((λ e. absurd cc), ((λ e. absurd cc), (tt, (f, g))))))))
-keeps Parts d t.Text K f g = ((λ e. absurd cc), ((λ e. absurd cc), (f, g)))
-keeps Parts d t.End K f g = g
-keeps Parts d _ K f g = tt
+keeps L Parts d t.Text K f g l = ((λ e. absurd cc), ((λ e. absurd cc), (f, g)))
+keeps L Parts d t.End K f g l = g
+keeps L Parts d _ K f g l = tt
 
 -- ---- nothing takes the end
 
@@ -251,13 +263,13 @@ last_if : (b : Bool) (x : Verdict) (u : Lexemes) (last : Lexeme) (rest : Lexemes
 last_if true x u last rest go e = go e
 last_if false x u last rest go e = (u, sym (refused_same (u ++ last ∷ []) rest e))
 
-last_row : (o : Option Stack) (f : Stack → Verdict) (K : Stack) (u : Lexemes) (last : Lexeme) (rest : Lexemes) → GoodRow o K
-    → ((s : Stack) → Good (s ++ K) → f s ≡ Refused rest → EndsWith rest (last ∷ []))
+last_row : (o : Option Stack) (f : Stack → Verdict) (K : Stack) (u : Lexemes) (last : Lexeme) (rest : Lexemes) → GoodRow Each o K
+    → ((s : Stack) → Good Each (s ++ K) → f s ≡ Refused rest → EndsWith rest (last ∷ []))
     → by_row o f (u ++ last ∷ []) ≡ Refused rest → EndsWith rest (last ∷ [])
 last_row (Some s) f K u last rest good go e = go s good e
 last_row None f K u last rest good go e = (u, sym (refused_same (u ++ last ∷ []) rest e))
 
-pub before_end : (n : ℕ) (stack : Stack) (u : Lexemes) (last : Lexeme) (rest : Lexemes) → Good stack → last.kind ≡ t.End
+pub before_end : (n : ℕ) (stack : Stack) (u : Lexemes) (last : Lexeme) (rest : Lexemes) → Good Each stack → last.kind ≡ t.End
     → run n stack (u ++ last ∷ []) ≡ Refused rest → EndsWith rest (last ∷ [])
 before_end zero stack u last rest good is e = absurd cc
 before_end (suc n) [] u last rest good is e =
@@ -268,7 +280,7 @@ before_end (suc n) (T k ∷ K) (x ∷ u) last rest good is e =
     last_if (same x.kind k) (run n K (u ++ last ∷ [])) (x ∷ u) last rest (before_end n K u last rest good.1 is) e
 before_end (suc n) (N rule d ∷ K) u last rest good is e =
     last_row (row rule d (kind (u ++ last ∷ []))) (λ s. run n (s ++ K) (u ++ last ∷ [])) K u last rest
-    (keeps rule d (kind (u ++ last ∷ [])) K good.0 good.1) (λ s fine. before_end n (s ++ K) u last rest fine is) e
+    (keeps Each rule d (kind (u ++ last ∷ [])) K good.0 good.1 (λ _ _. tt)) (λ s fine. before_end n (s ++ K) u last rest fine is) e
 
 -- ---- one level more
 
@@ -511,58 +523,81 @@ more_eats : (item : Item) (d : ℕ) (K : Stack) (ts : Lexemes) → kind ts ≡ c
 more_eats item d K ts is =
     skip (ap (row (More item) d) is ∙ ap (λ (b : Bool). if b then Some [] else Some (N (Items item) d ∷ [])) (same_self (close_of item)))
 
-eats : (rule : Rule) (d : ℕ) (K : Stack) (ts : Lexemes) → Fits rule (kind ts)
-    → Leads (N (raised_rule rule) (suc d) ∷ K) (map plain_lexeme (word rule) ++ ts) K ts
-eats Expr d K ts f = expr_eats (suc d) K ts f
-eats Ors d K ts f = skip ((stops (kind ts) f).ors (suc d))
-eats Conjunction d K ts f = conjunction_eats (suc d) K ts f
-eats Ands d K ts f = skip ((stops (kind ts) f).ands (suc d))
-eats (Inverted e) d K ts f = inverted_eats (suc e) (suc d) K ts f
-eats (Compared e) d K ts f = compared_eats (suc e) (suc d) K ts f
-eats Comparison d K ts f = skip ((stops (kind ts) f).comparison (suc d))
-eats (Chain n e) d K ts f = chain_eats n (suc e) (suc d) K ts f
-eats (Links n) d K ts f = skip ((stops (kind ts) f).links n (suc d))
-eats (Unary e) d K ts f = unary_eats (suc e) (suc d) K ts f
+eats : (rule : Rule) (d : ℕ) (K : Stack) (ts : Lexemes) → Fits Leaves rule d (kind ts)
+    → Leads (N rule d ∷ K) (map plain_lexeme (word rule) ++ ts) K ts
+eats Expr d K ts f = expr_eats d K ts f
+eats Ors d K ts f = skip ((stops (kind ts) f).ors d)
+eats Conjunction d K ts f = conjunction_eats d K ts f
+eats Ands d K ts f = skip ((stops (kind ts) f).ands d)
+eats (Inverted e) d K ts f = inverted_eats e d K ts f
+eats (Compared e) d K ts f = compared_eats e d K ts f
+eats Comparison d K ts f = skip ((stops (kind ts) f).comparison d)
+eats (Chain n e) d K ts f = chain_eats n e d K ts f
+eats (Links n) d K ts f = skip ((stops (kind ts) f).links n d)
+eats (Unary e) d K ts f = unary_eats e d K ts f
 eats (Power e) d K ts f =
-    expand (N (Primary (suc e)) (suc d) ∷ N Exponent (suc d) ∷ []) refl
-    (then_on (primary_eats (suc e) (suc d) (N Exponent (suc d) ∷ K) ts f) (skip ((stops (kind ts) f).exponent (suc d))))
-eats Exponent d K ts f = skip ((stops (kind ts) f).exponent (suc d))
-eats (Primary e) d K ts f = primary_eats (suc e) (suc d) K ts f
+    expand (N (Primary e) d ∷ N Exponent d ∷ []) refl
+    (then_on (primary_eats e d (N Exponent d ∷ K) ts f) (skip ((stops (kind ts) f).exponent d)))
+eats Exponent d K ts f = skip ((stops (kind ts) f).exponent d)
+eats (Primary e) d K ts f = primary_eats e d K ts f
 eats (Atom e) d K ts f = expand (T t.Name ∷ []) refl (eat refl stay)
 eats Parenthesis d K ts f = expand (T t.CloseParen ∷ []) refl (eat refl stay)
-eats Trailers d K ts f = skip ((stops (kind ts) f).trailers (suc d))
-eats Arg d K ts f = arg_eats (suc d) K ts f
-eats Keyed d K ts f = skip (ap (row Keyed (suc d)) f)
-eats Subscripted d K ts f = subscripted_eats (suc d) K ts f
-eats Sliced d K ts f = skip (ap (row Sliced (suc d)) f)
+eats Trailers d K ts f = skip ((stops (kind ts) f).trailers d)
+eats Arg d K ts f = arg_eats d K ts f
+eats Keyed d K ts f = skip (ap (row Keyed d) f)
+eats Subscripted d K ts f = subscripted_eats d K ts f
+eats Sliced d K ts f = skip (ap (row Sliced d) f)
 eats Cut d K ts f =
-    expand (T t.Colon ∷ N Bound (suc d) ∷ N Step (suc d) ∷ []) refl
-    (eat refl (then_on (skip (ap (row Bound (suc d)) f)) (skip (ap (row Step (suc d)) f))))
-eats Bound d K ts f = skip (ap (row Bound (suc d)) f)
-eats Step d K ts f = skip (ap (row Step (suc d)) f)
+    expand (T t.Colon ∷ N Bound d ∷ N Step d ∷ []) refl
+    (eat refl (then_on (skip (ap (row Bound d) f)) (skip (ap (row Step d) f))))
+eats Bound d K ts f = skip (ap (row Bound d) f)
+eats Step d K ts f = skip (ap (row Step d) f)
 eats (Items item) d K ts f =
-    expand (item_symbol item (suc d) ∷ N (Comma item) (suc d) ∷ []) refl
-    (then_on (item_eats item (suc d) (N (Comma item) (suc d) ∷ K) ts f) (comma_eats item (suc d) K ts f))
-eats (More item) d K ts f = more_eats item (suc d) K ts f
-eats (Comma item) d K ts f = comma_eats item (suc d) K ts f
+    expand (item_symbol item d ∷ N (Comma item) d ∷ []) refl
+    (then_on (item_eats item d (N (Comma item) d ∷ K) ts f) (comma_eats item d K ts f))
+eats (More item) d K ts f = more_eats item d K ts f
+eats (Comma item) d K ts f = comma_eats item d K ts f
 eats Simple d K ts f = expand (T t.Pass ∷ []) refl (eat refl stay)
-eats Stored d K ts f = skip (ap (row Stored (suc d)) f)
-eats Line d K ts f = line_eats (suc d) K ts
-eats Block d K ts f = expand (N Line (suc d) ∷ []) refl (line_eats (suc d) K ts)
-eats Indented d K ts f =
+eats Stored d K ts f = skip (ap (row Stored d) f)
+eats Line d K ts f = line_eats d K ts
+eats Block d K ts f = expand (N Line d ∷ []) refl (line_eats d K ts)
+eats Indented zero K ts f = absurd (f refl)
+eats Indented (suc d) K ts f =
     expand (T t.Indent ∷ N Stmt d ∷ N Stmts d ∷ T t.Dedent ∷ []) refl
     (eat refl (then_on (stmt_eats d (N Stmts d ∷ T t.Dedent ∷ K) (plain_lexeme t.Dedent ∷ ts)) (then_on (skip refl) (eat refl stay))))
-eats Stmts d K ts f = skip (ap (row Stmts (suc d)) f)
-eats Stmt d K ts f = stmt_eats (suc d) K ts
-eats Tail d K ts f = skip (ap (row Tail (suc d)) f)
+eats Stmts d K ts f = skip (ap (row Stmts d) f)
+eats Stmt d K ts f = stmt_eats d K ts
+eats Tail d K ts f = skip (ap (row Tail d) f)
 eats Alias d K ts f = expand (T t.Newline ∷ []) refl (eat refl stay)
-eats Parts d K ts f = skip (ap (row Parts (suc d)) f)
+eats Parts d K ts f = skip (ap (row Parts d) f)
 
--- the stack with one level more accepts its plain completion
-pub completes : (K : Stack) → Good K → Accepts (map raised K) (plain K)
+-- a stack on which each block has a level accepts its plain completion
+pub completes : (K : Stack) → Good Leaves K → Accepts K (plain K)
 completes [] good = (1, ap (λ (b : Bool). if b then Accepted else Refused []) (same_self t.End))
 completes (T k ∷ K) good = accepts_on (eat refl stay) (completes K good.1)
-completes (N rule d ∷ K) good = accepts_on (eats rule d (map raised K) (plain K) good.0) (completes K good.1)
+completes (N rule d ∷ K) good = accepts_on (eats rule d K (plain K) good.0) (completes K good.1)
+
+-- with one level more each block has a level
+
+raised_word : (rule : Rule) → word (raised_rule rule) ≡ word rule
+raised_word Expr = refl
+raised_word _ = refl
+
+raised_plain : (K : Stack) → plain (map raised K) ≡ plain K
+raised_plain [] = refl
+raised_plain (T k ∷ K) = ap (λ z. plain_lexeme k ∷ z) (raised_plain K)
+raised_plain (N rule d ∷ K) =
+    ap (λ z. map plain_lexeme z ++ plain (map raised K)) (raised_word rule) ∙ ap (λ z. map plain_lexeme (word rule) ++ z) (raised_plain K)
+
+raised_fits : (rule : Rule) (d : ℕ) (f : Terminal) → Fits Leaves rule d f → Fits Leaves (raised_rule rule) (suc d) f
+raised_fits Indented d f fits = λ e. absurd cc
+raised_fits _ d f fits = fits
+
+raised_good : (K : Stack) → Good Leaves K → Good Leaves (map raised K)
+raised_good [] good = tt
+raised_good (T k ∷ K) good = (good.0, raised_good K good.1)
+raised_good (N rule d ∷ K) good =
+    (raised_fits rule d (kind (plain (map raised K))) (subst (λ z. Fits Leaves rule d (kind z)) (sym (raised_plain K)) good.0), raised_good K good.1)
 
 -- ---- what stands before a refused lexeme goes on to what is accepted
 
@@ -580,25 +615,120 @@ go_row : {A : Type 0} (o : Option Stack) (f : Stack → Verdict) (x : Lexeme) (u
 go_row (Some s) f x u rest go e = go s refl e
 go_row None f x u rest go e = too_soon x u rest e
 
+-- each block on the stack has a level, or the one on top alone has none
+abbrev Due : Stack → Type 0
+Due K = Good Leaves K ⊎ ((L : Stack) × (K ≡ N Indented zero ∷ L) × Good Leaves L)
+
+-- the stack takes all these, with one level more too
+record Arrives (stack : Stack) (used : Lexemes) : Type 0 where
+  there : Stack
+  due : Due there
+  leads : (more : Lexemes) → Leads stack (used ++ more) there more
+  raised_leads : (more : Lexemes) → Leads (map raised stack) (used ++ more) (map raised there) more
+
+arrived : (K : Stack) → Due K → Arrives K []
+arrived K due = record { there = K; due = due; leads = λ more. stay; raised_leads = λ more. stay }
+
+taken : (k : Terminal) (K : Stack) (x : Lexeme) (u : Lexemes) → x.kind ≡ k → Arrives K u → Arrives (T k ∷ K) (x ∷ u)
+taken k K x u is h = record {
+  there = h.there;
+  due = h.due;
+  leads = λ more. eat is (h.leads more);
+  raised_leads = λ more. eat is (h.raised_leads more);
+}
+
+expanded : (rule : Rule) (d : ℕ) (s K : Stack) (x : Lexeme) (u : Lexemes) → row rule d x.kind ≡ Some s → Arrives (s ++ K) (x ∷ u) → Arrives (N rule d ∷ K) (x ∷ u)
+expanded rule d s K x u is h = record {
+  there = h.there;
+  due = h.due;
+  leads = λ more. expand s is (h.leads more);
+  raised_leads = λ more.
+      expand (map raised s) (raise rule d x.kind s is)
+      (subst (λ z. Leads z (x ∷ (u ++ more)) (map raised h.there) more) (raised_append s K) (h.raised_leads more));
+}
+
+-- whether it is a block that begins with a Newline and has no level
+block : (rule : Rule) (d : ℕ) (k : Terminal) → ((rule ≡ Block) × (k ≡ t.Newline) × (d ≡ zero)) ⊎ (rule ≡ Block → k ≡ t.Newline → Leaves d)
+block Block zero t.Newline = inl (refl, refl, refl)
+block Block (suc d) t.Newline = inr (λ _ _ e. absurd cc)
+block Block d _ = inr (λ _ e _. absurd cc)
+block _ d k = inr (λ e _ _. absurd cc)
+
+-- behind the Newline of such a block nothing is taken
+nothing_more : (n : ℕ) (K : Stack) (u rest : Lexemes) → Good Leaves K → run n (N Indented zero ∷ K) (u ++ rest) ≡ Refused rest
+    → Arrives (N Indented zero ∷ K) u
+nothing_more zero K u rest good e = absurd cc
+nothing_more (suc n) K [] rest good e = arrived (N Indented zero ∷ K) (inr (K, refl, good))
+nothing_more (suc n) K (x ∷ u) rest good e = too_soon x u rest e
+
+behind_newline : (n : ℕ) (K : Stack) (x : Lexeme) (u rest : Lexemes) → Good Leaves K
+    → run n (T t.Newline ∷ N Indented zero ∷ K) (x ∷ (u ++ rest)) ≡ Refused rest → Arrives (T t.Newline ∷ N Indented zero ∷ K) (x ∷ u)
+behind_newline zero K x u rest good e = absurd cc
+behind_newline (suc n) K x u rest good e =
+    go_if (same x.kind t.Newline) (run n (N Indented zero ∷ K) (u ++ rest)) x u rest
+    (λ is h. taken t.Newline (N Indented zero ∷ K) x u (one_kind x.kind t.Newline is) (nothing_more n K u rest good h)) e
+
+arrives_row : (n : ℕ) (rule : Rule) (d : ℕ) (k : Terminal) (s K : Stack) (x : Lexeme) (u rest : Lexemes) → row rule d k ≡ Some s
+    → Fits Leaves rule d (kind (plain K)) → Good Leaves K → run n (s ++ K) (x ∷ (u ++ rest)) ≡ Refused rest
+    → (Good Leaves (s ++ K) → Arrives (s ++ K) (x ∷ u))
+    → ((rule ≡ Block) × (k ≡ t.Newline) × (d ≡ zero)) ⊎ (rule ≡ Block → k ≡ t.Newline → Leaves d) → Arrives (s ++ K) (x ∷ u)
+arrives_row n rule d k s K x u rest is fits good h go (inl b) =
+    let symbols : Some s ≡ Some (T t.Newline ∷ N Indented zero ∷ []) =
+    sym is ∙ (ap (λ r. row r d k) b.0 ∙ (ap (row Block d) b.1 ∙ ap (λ (e : ℕ). row Block e t.Newline) b.2)) in
+    let same_symbols : T t.Newline ∷ N Indented zero ∷ [] ≡ s = cc in
+    subst (λ z. Arrives (z ++ K) (x ∷ u)) same_symbols
+    (behind_newline n K x u rest good (subst (λ z. run n (z ++ K) (x ∷ (u ++ rest)) ≡ Refused rest) (sym same_symbols) h))
+arrives_row n rule d k s K x u rest is fits good h go (inr l) =
+    go (subst (λ o. GoodRow Leaves o K) is (keeps Leaves rule d k K fits good l))
+
+arrives : (n : ℕ) (stack : Stack) (used rest : Lexemes) → Good Leaves stack → run n stack (used ++ rest) ≡ Refused rest → Arrives stack used
+arrives n stack [] rest good e = arrived stack (inl good)
+arrives zero stack (x ∷ u) rest good e = absurd cc
+arrives (suc n) [] (x ∷ u) rest good e =
+    go_if (same x.kind t.End) Accepted x u rest (λ is (bad : Accepted ≡ Refused rest). absurd cc) e
+arrives (suc n) (T k ∷ K) (x ∷ u) rest good e =
+    go_if (same x.kind k) (run n K (u ++ rest)) x u rest
+    (λ is h. taken k K x u (one_kind x.kind k is) (arrives n K u rest good.1 h)) e
+arrives (suc n) (N rule d ∷ K) (x ∷ u) rest good e =
+    go_row (row rule d x.kind) (λ s. run n (s ++ K) (x ∷ (u ++ rest))) x u rest
+    (λ s is h.
+    expanded rule d s K x u is
+    (arrives_row n rule d x.kind s K x u rest is good.0 good.1 h (λ fine. arrives n (s ++ K) (x ∷ u) rest fine h) (block rule d x.kind))) e
+
 abbrev pub GoesOn : Stack → Lexemes → Type 0
 GoesOn stack used = (more : Lexemes) × Accepts stack (used ++ more)
 
-viable_from : (n : ℕ) (stack : Stack) (used rest : Lexemes) → Good stack → run n stack (used ++ rest) ≡ Refused rest → GoesOn (map raised stack) used
-viable_from n stack [] rest good e = (plain stack, completes stack good)
-viable_from zero stack (x ∷ u) rest good e = absurd cc
-viable_from (suc n) [] (x ∷ u) rest good e =
-    go_if (same x.kind t.End) Accepted x u rest (λ is (bad : Accepted ≡ Refused rest). absurd cc) e
-viable_from (suc n) (T k ∷ K) (x ∷ u) rest good e =
-    go_if (same x.kind k) (run n K (u ++ rest)) x u rest
-    (λ is h. let goes = viable_from n K u rest good.1 h in (goes.0, accepts_on (eat (one_kind x.kind k is) stay) goes.1)) e
-viable_from (suc n) (N rule d ∷ K) (x ∷ u) rest good e =
-    go_row (row rule d x.kind) (λ s. run n (s ++ K) (x ∷ (u ++ rest))) x u rest
-    (λ s is h.
-    let goes = viable_from n (s ++ K) (x ∷ u) rest (subst (λ o. GoodRow o K) is (keeps rule d x.kind K good.0 good.1)) h in (
-      goes.0,
-      accepts_on (expand (map raised s) (raise rule d x.kind s is) stay)
-          (subst (λ z. Accepts z (x ∷ (u ++ goes.0))) (raised_append s K) goes.1),
-    )) e
+-- Nothing goes on from these with so many levels. With one more something does, and begins with an Indent.
+pub record Deepest (depth : ℕ) (used : Lexemes) : Type 0 where
+  pub none : (more : Lexemes) → Accepts (N Parts depth ∷ []) (used ++ more) → ⊥
+  pub one_more : GoesOn (N Parts (suc depth) ∷ []) used
+  pub indent : (more : Lexemes) → Accepts (N Parts (suc depth) ∷ []) (used ++ more) → kind more ≡ t.Indent
 
-pub viable : (depth : ℕ) (used rest : Lexemes) → RefusedAt (N Parts depth ∷ []) (used ++ rest) rest → GoesOn (N Parts (suc depth) ∷ []) used
-viable depth used rest h = viable_from h.0 (N Parts depth ∷ []) used rest (refl, tt) h.1
+no_way : (stack K : Stack) (ts us : Lexemes) → Leads stack ts (N Indented zero ∷ K) us → Accepts stack ts → ⊥
+no_way stack K ts us h accepts = let first = h.by 1 in not_both stack ts us accepts (first.0, first.1)
+
+next_indent : (stack K : Stack) (ts us : Lexemes) → Leads stack ts (N Indented 1 ∷ K) us → Accepts stack ts
+    → (b : Bool) → same (kind us) t.Indent ≡ b → kind us ≡ t.Indent
+next_indent stack K ts us h accepts true is = one_kind (kind us) t.Indent is
+next_indent stack K ts us h accepts false is =
+    let first = h.by 2 in
+    absurd (not_both stack ts us accepts (first.0, first.1 ∙ ap (λ (b : Bool). if b then Unfinished else Refused us) is))
+
+viable_by : (depth : ℕ) (used : Lexemes) (h : Arrives (N Parts depth ∷ []) used) → Due h.there → GoesOn (N Parts depth ∷ []) used ⊎ Deepest depth used
+viable_by depth used h (inl good) = inl (plain h.there, accepts_on (h.leads (plain h.there)) (completes h.there good))
+viable_by depth used h (inr (K, is, good)) =
+    let there : Stack = N Indented 1 ∷ map raised K in
+    let raised_is : map raised h.there ≡ there = ap (map raised) is in
+    let leads : (more : Lexemes) → Leads (N Parts (suc depth) ∷ []) (used ++ more) there more =
+    λ more. subst (λ z. Leads (N Parts (suc depth) ∷ []) (used ++ more) z more) raised_is (h.raised_leads more) in
+    inr (record {
+      none = λ more.
+          no_way (N Parts depth ∷ []) K (used ++ more) more (subst (λ z. Leads (N Parts depth ∷ []) (used ++ more) z more) is (h.leads more));
+      one_more = (plain there, accepts_on (leads (plain there)) (completes there ((λ e. absurd cc), raised_good K good)));
+      indent = λ more accepts.
+          next_indent (N Parts (suc depth) ∷ []) (map raised K) (used ++ more) more (leads more) accepts (same (kind more) t.Indent) refl;
+    })
+
+pub viable : (depth : ℕ) (used rest : Lexemes) → RefusedAt (N Parts depth ∷ []) (used ++ rest) rest → GoesOn (N Parts depth ∷ []) used ⊎ Deepest depth used
+viable depth used rest h =
+    let there = arrives h.0 (N Parts depth ∷ []) used rest (refl, tt) h.1 in viable_by depth used there there.due

@@ -1,5 +1,5 @@
 -- What stands before a refused lexeme is the longest part that begins lexemes with a tree, and the clauses of `parse` by that.
-use Rattle.std.proofs.Common.{◌≡◌, ℕ, zero, suc, Bool, true, false, List, [], ◌∷◌, ◌++◌, Result, Ok, Err, IfOk, IfErr, refl, ap, sym, subst, ◌∙◌, append_assoc, if◌then◌else◌}
+use Rattle.std.proofs.Common.{◌≡◌, ℕ, zero, suc, ◌⊎◌, inl, inr, Bool, true, false, List, [], ◌∷◌, ◌++◌, Result, Ok, Err, IfOk, IfErr, refl, ap, sym, subst, ◌∙◌, append_assoc, if◌then◌else◌}
 use Rattle.krn_base.specs.declared.place.Loc.{Loc}
 use Rattle.krn_base.specs.declared.refusal.Stop.{Stop}
 use Rattle.krn_base.specs.declared.refusal.Stop.TheVariants as stop
@@ -19,11 +19,11 @@ use Rattle.py_parse.specs.Parser.{Outcome, kind, place}
 use Rattle.py_parse.specs.Blocks.{parts}
 use Rattle.py_parse.specs.Notes.{notes_of}
 use Rattle.py_parse.specs.Stack.{Stack, N, Parts, run, Accepted, Refused, RefusedAt}
-use Rattle.py_parse.specs.Parsed.{levels, Halves, IsModule, IsTree, Begins, IsRefusedAt, IsRefusal, IsOnly}
+use Rattle.py_parse.specs.Parsed.{levels, Halves, IsModule, IsTree, Begins, IsDeepest, IsRefusedAt, IsRefusal, IsOnly}
 use Rattle.py_parse.specs.Descended.{IsDescended}
 use Rattle.py_parse.proofs.Follows.{Follows, Fate}
 use Rattle.py_parse.proofs.Machine.{same_self, Accepts, not_both, suffix, no_longer}
-use Rattle.py_parse.proofs.Plain.{before_end, viable}
+use Rattle.py_parse.proofs.Plain.{GoesOn, Deepest, before_end, viable}
 
 abbrev pub bottom : ℕ → Stack
 bottom depth = N Parts depth ∷ []
@@ -85,6 +85,18 @@ tree_accepted sound complete depth halves ts is =
 
 -- ---- where it is refused
 
+begun : Sound → (depth : ℕ) (used : Lexemes) → GoesOn (bottom depth) used → Begins depth used
+begun sound depth used goes = let tree = accepted_tree sound depth (used ++ goes.0) goes.1 in (tree.0, goes.0, tree.1)
+
+begins_by : Sound → Complete → (depth : ℕ) (used : Lexemes) → GoesOn (bottom depth) used ⊎ Deepest depth used
+    → Begins depth used ⊎ IsDeepest depth used
+begins_by sound complete depth used (inl goes) = inl (begun sound depth used goes)
+begins_by sound complete depth used (inr deepest) = inr (record {
+  none = λ h. deepest.none h.1 (tree_accepted sound complete depth h.0 (used ++ h.1) h.2);
+  one_more = begun sound (suc depth) used deepest.one_more;
+  indent = λ halves more is. deepest.indent more (tree_accepted sound complete (suc depth) halves (used ++ more) is);
+})
+
 pub refused_here : Sound → Complete → (depth : ℕ) (used : Lexemes) (at : Lexeme) (rest : Lexemes)
     → parts depth (used ++ at ∷ rest) ≡ Err (at ∷ rest) → IsRefusedAt depth (used ++ at ∷ rest) at
 refused_here sound complete depth used at rest e =
@@ -98,10 +110,7 @@ refused_here sound complete depth used at rest e =
       no_tree = λ halves is.
           let p = complete depth halves (used ++ at ∷ rest) is in
           not_refused (halves, p.0) (at ∷ rest) (sym p.1 ∙ e);
-      begins =
-          let goes = viable depth used (at ∷ rest) refused in
-          let tree = accepted_tree sound (suc depth) (used ++ goes.0) goes.1 in
-          (tree.0, goes.0, tree.1);
+      begins = begins_by sound complete depth used (viable depth used (at ∷ rest) refused);
       ends = λ h.
           let is : IsModule depth h.0 (used ++ at ∷ h.1) = subst (λ z. IsModule depth h.0 z) (append_assoc used (at ∷ []) h.1) h.2 in
           no_longer (bottom depth) used at rest h.1 refused (tree_accepted sound complete depth h.0 (used ++ at ∷ h.1) is);

@@ -1,5 +1,5 @@
 -- What the tree of a module is to those who ask for it, and what a refusal is.
-use Rattle.std.specs.Prelude.{◌≡◌, ℕ, suc, List, [], ◌∷◌, ◌++◌, Result, Ok, Err}
+use Rattle.std.specs.Prelude.{◌≡◌, ℕ, suc, ◌⊎◌, List, [], ◌∷◌, ◌++◌, Result, Ok, Err}
 use Rattle.krn_base.specs.declared.refusal.Refusal.{Refusal}
 use Rattle.krn_base.specs.declared.refusal.Rule.TheVariants as rule
 use Rattle.krn_base.specs.declared.refusal.Stop.{Stop}
@@ -36,6 +36,13 @@ pub record IsTree (source : Bytes) (tokens : Tokens) (m : Module) : Type 0 where
 abbrev pub Begins : ℕ → Lexemes → Type 0
 Begins depth used = (halves : Halves) × (more : Lexemes) × IsModule depth halves (used ++ more)
 
+-- Behind these a block is due for which no level is left. With so many levels no lexemes with a tree begin so; with one more some do, and
+-- in each an Indent is next, which opens that level.
+pub record IsDeepest (depth : ℕ) (used : Lexemes) : Type 0 where
+  pub none : Begins depth used → ⊥
+  pub one_more : Begins (suc depth) used
+  pub indent : (halves : Halves) (more : Lexemes) → IsModule (suc depth) halves (used ++ more) → kind more ≡ t.Indent
+
 -- These lexemes are refused at one of them.
 pub record IsRefusedAt (depth : ℕ) (ts : Lexemes) (at : Lexeme) : Type 0 where
   pub used : Lexemes
@@ -44,9 +51,9 @@ pub record IsRefusedAt (depth : ℕ) (ts : Lexemes) (at : Lexeme) : Type 0 where
   -- the stack of symbols has no row for it
   pub no_row : RefusedAt (N Parts depth ∷ []) ts (at ∷ rest)
   pub no_tree : (halves : Halves) → IsModule depth halves ts → ⊥
-  -- What stands before it begins lexemes with a tree, with one level more: behind a Newline of the last level only an Indent that
-  -- opens one more could stand. With it none begin so.
-  pub begins : Begins (suc depth) used
+  -- What stands before it begins lexemes with a tree, unless only an Indent that opens one level too many could come behind it. With it
+  -- none begin so.
+  pub begins : Begins depth used ⊎ IsDeepest depth used
   pub ends : Begins depth (used ++ at ∷ []) → ⊥
 
 -- a refusal comes under the rule Syntax, at the place of that lexeme

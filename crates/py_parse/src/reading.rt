@@ -54,7 +54,7 @@ fn read(alloc: Global, source: &[u8], tokens: &Tokens) -> Result<Module, Stop>
 ///
 /// The answer is the one tree that the grammar gives; [`Stop::Refused`] by `Rule::Syntax`, exactly where it gives none, at the first
 /// token that can't stand where it does or that opens the 65th level; or [`Stop::Memory`]. The tokens are read in one pass.
-#[tactic(auto, using(crate::proofs::Clauses::parse_tree, crate::proofs::Clauses::parse_refused, crate::proofs::Clauses::parse_only, crate::proofs::OneRefusal::only_refusal))]
+#[tactic(auto, using(crate::proofs::Clauses::parse_tree, crate::proofs::Clauses::parse_refused, crate::proofs::Clauses::parse_only, crate::proofs::Clauses::parse_place))]
 pub fn parse(alloc: Global, source: &[u8], tokens: &Tokens) -> Result<Module, Stop>
     requires { IsLexed source.now tokens.now }
     ensures tree { IfOk result (λ m. IsTree source.now tokens.now m) }
