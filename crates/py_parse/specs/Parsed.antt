@@ -60,3 +60,9 @@ abbrev pub IsOnly : Module → Result Module Stop → Type 0
 IsOnly m (Ok x) = x ≡ m
 IsOnly m (Err (stop.Refused r)) = ⊥
 IsOnly m (Err stop.Memory) = Unit {0}
+
+-- an answer other than this refusal is want of memory alone
+abbrev pub IsOnlyRefusal : Refusal → Result Module Stop → Type 0
+IsOnlyRefusal r (Ok m) = ⊥
+IsOnlyRefusal r (Err (stop.Refused q)) = q ≡ r
+IsOnlyRefusal r (Err stop.Memory) = Unit {0}

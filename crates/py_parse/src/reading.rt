@@ -1,6 +1,8 @@
 ghost use Rattle.std.specs.Prelude.{IfOk, IfErr};
 ghost use Rattle.py_lex.specs.Lexed.{IsLexed};
-ghost use Rattle.py_parse.specs.Parsed.{IsTree, IsRefusal, IsOnly};
+ghost use Rattle.krn_base.specs.declared.refusal.Refusal.{Refusal};
+ghost use Rattle.krn_base.specs.declared.refusal.Stop.TheVariants as stop;
+ghost use Rattle.py_parse.specs.Parsed.{IsTree, IsRefusal, IsOnly, IsOnlyRefusal};
 ghost use Rattle.py_parse.specs.declared.tree.Module.{Module};
 
 use crate::tree::Module;
@@ -12,11 +14,13 @@ use std::alloc::Global;
 ///
 /// The answer is the one tree that the grammar gives; [`Stop::Refused`] by `Rule::Syntax`, exactly where it gives none, at the first
 /// token that can't stand where it does or that opens the 65th level; or [`Stop::Memory`]. The tokens are read in one pass.
+#[tactic(auto, using(crate::proofs::OneRefusal::only_refusal))]
 pub fn parse(_alloc: Global, _source: &[u8], _tokens: &Tokens) -> Result<Module, Stop>
     requires { IsLexed _source.now _tokens.now }
     ensures tree { IfOk result (λ m. IsTree _source.now _tokens.now m) }
     ensures refused { IfErr result (IsRefusal _source.now _tokens.now) }
     ensures only { (m : Module) → IsTree _source.now _tokens.now m → IsOnly m result }
+    ensures place { (r : Refusal) → IsRefusal _source.now _tokens.now (stop.Refused r) → IsOnlyRefusal r result }
 {
     Err(Stop::Memory)
 }
