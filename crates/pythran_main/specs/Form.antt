@@ -1,5 +1,5 @@
 -- The only kernel whose module a tree may be, by its parts.
-use Rattle.std.specs.Prelude.{◌≡◌, ℕ, ◌×◌, Bool, true, false, ◌&&◌, if◌then◌else◌, List, [], ◌∷◌, Option, Some, None, option_and_then}
+use Rattle.std.specs.Prelude.{◌≡◌, ℕ, Bool, true, false, ◌&&◌, if◌then◌else◌, List, [], ◌∷◌, Option, Some, None, option_and_then}
 use Rattle.std.specs.Str.{bytes_eq}
 use Rattle.krn_base.specs.declared.operation.BinOp.{BinOp}
 use Rattle.krn_base.specs.declared.place.Loc.{Loc}
@@ -106,4 +106,11 @@ is_empty [] = true
 is_empty (x ∷ xs) = false
 
 abbrev pub is_whole : Module → ShortKernel → Bool
-is_whole m k = is_empty m.imports && (is_exported_by (only m.notes) k && (are_names k && is_short k.op))
+is_whole m k = is_empty m.imports && (are_names k && (is_short k.op && is_exported_by (only m.notes) k))
+
+abbrev pub whole : Module → ShortKernel → Option ShortKernel
+whole m k = if is_whole m k then Some k else None
+
+-- the kernel of a tree, or none
+abbrev pub form_of : Module → Option ShortKernel
+form_of m = option_and_then (whole m) (candidate m)

@@ -70,6 +70,29 @@ fn call<R: Threads + Sync>(
     Ok((status, out, err))
 }
 
+/// The status, the output and the error output of a call of `add` with a module of this text.
+fn call_text<R: Threads + Sync>(
+    rt: &R,
+    alloc: Global,
+    text: &str,
+) -> Result<(u8, MemSink, MemSink), Fail> {
+    let slots = vec![in alloc; make_slot(alloc, "m.py", text)?]?;
+    let mut files = MemFiles::new(alloc, slots, Vec::new(alloc))?;
+    let mut out = MemSink::new(alloc, 1000, Vec::new(alloc))?;
+    let mut err = MemSink::new(alloc, 100, Vec::new(alloc))?;
+    let words = make_words(alloc, "run m.py add buf:A=1,2,3 a=@A b=@A")?;
+    let status = pythran(
+        rt,
+        alloc,
+        words.as_slice(),
+        &mut files,
+        &mut out,
+        &mut err,
+        &OpenGate,
+    );
+    Ok((status, out, err))
+}
+
 #[test]
 fn answers_of_calls(rt: HostRuntime) -> Result<(), Fail> {
     let rows = [
@@ -109,6 +132,27 @@ fn answers_of_calls(rt: HostRuntime) -> Result<(), Fail> {
             0,
             "return int64 (3,) 9 0 16\nbuffer A int64 (1,) 1\nbuffer _b int64 (3,) -3 0 4\ncounts nests 1 temps 0 parallel 0 serial 0\n",
             "",
+        ),
+        (
+            "def add(a, b): return a + b\n\n#pythran export add(int[], int[])",
+            "run m.py add buf:A=1,2,3 buf:B=1,2 a=@A b=@B",
+            1,
+            "fault ValueError 1:25\nbuffer A int64 (3,) 1 2 3\nbuffer B int64 (2,) 1 2\ncounts nests 0 temps 0 parallel 0 serial 0\n",
+            "",
+        ),
+        (
+            "def add(a, b): return a + 08",
+            "run m.py sum buf:A=x",
+            3,
+            "",
+            "refused Lex 1:27\n",
+        ),
+        (
+            "def add(a, b)",
+            "run m.py sum buf:A=x",
+            3,
+            "",
+            "refused Syntax 1:14\n",
         ),
         (ADD, "", 2, "", "error words\n"),
         (ADD, "frob", 2, "", "error words\n"),
@@ -174,6 +218,58 @@ fn answers_of_calls(rt: HostRuntime) -> Result<(), Fail> {
         assert_eq!(rt; ended, status, "{words}");
         assert_eq!(rt; output.written(), out.as_bytes(), "{words}");
         assert_eq!(rt; errors.written(), err.as_bytes(), "{words}");
+    }
+    Ok(())
+}
+
+#[test]
+fn readings_of_modules(rt: HostRuntime) -> Result<(), Fail> {
+    let note = "#pythran export add(int[], int[])\n";
+    let add = "def add(a, b):\n    return a + b\n";
+    let rows = [
+        // comments, blank lines, texts between, and other layouts of the same tree
+        ("# a sum\n\n", "def add(a, b):  # of rows\n\n    return a + b\n", 0, ""),
+        ("'a text'\n", add, 0, ""),
+        ("", "def add(a, b,):\n return a+b,\n", 0, ""),
+        ("", "def add(a, b): return (a + b)\n", 0, ""),
+        ("", "def add(\n    a, b):\n    return (a\n+ b)", 0, ""),
+        // no tokens
+        ("", "def add(a, b):\n    return a + 9223372036854775808\n", 3, "refused Lex 3:16\n"),
+        ("", "def add(a, b)\n    return a + 9223372036854775808\n", 3, "refused Lex 3:16\n"),
+        ("", "def add(a, b):\n    return a + b\n  # c\n  x\n", 3, "refused Lex 5:3\n"),
+        ("", "def add(a, b):\n    return a $ b\n", 3, "refused Lex 3:14\n"),
+        // no tree
+        ("", "def add(a, b)\n    return a + b\n", 3, "refused Syntax 2:14\n"),
+        ("", "def add(a, b):\n    return a + (b\n", 3, "refused Syntax 4:1\n"),
+        ("", "def add(a, b):\n    return a +\n", 3, "refused Syntax 3:15\n"),
+        ("", "def add(a, b):\n    return a < b < a\n", 3, "refused Syntax 3:18\n"),
+        ("", "x = 1\n", 3, "refused Syntax 2:1\n"),
+        ("def\n", add, 3, "refused Syntax 1:4\n"),
+        // another tree
+        ("", "def add(a, b):\n    return a - b\n", 3, "refused Profile 1:1\n"),
+        ("", "def add(a, b):\n    return (a + b,)\n", 3, "refused Profile 1:1\n"),
+        ("", "def add(a, b):\n    return a + b, a\n", 3, "refused Profile 1:1\n"),
+        ("", "def add(a, b):\n    return a + b + a\n", 3, "refused Profile 1:1\n"),
+        ("", "def add(a, b):\n    return a + 1\n", 3, "refused Profile 1:1\n"),
+        ("", "def add(a, b):\n    return a + c\n", 3, "refused Profile 1:1\n"),
+        ("", "def add(a, b):\n    'a text'\n    return a + b\n", 3, "refused Profile 1:1\n"),
+        ("", "def add(a, b, c):\n    return a + b\n", 3, "refused Profile 1:1\n"),
+        ("", "def add(a, a):\n    return a + a\n", 3, "refused Profile 1:1\n"),
+        ("", "def add(add, b):\n    return add + b\n", 3, "refused Profile 1:1\n"),
+        ("", "def add(a, max):\n    return a + max\n", 3, "refused Profile 1:1\n"),
+        ("", "def sum(a, b):\n    return a + b\n", 3, "refused Profile 1:1\n"),
+        ("import numpy\n", add, 3, "refused Profile 1:1\n"),
+        ("#pythran export add(int[], int[])\n", add, 3, "refused Profile 1:1\n"),
+        ("def f():\n    pass\n", add, 3, "refused Profile 1:1\n"),
+        ("", "", 3, "refused Profile 1:1\n"),
+    ];
+    let alloc = rt.alloc();
+    for (before, after, status, err) in rows {
+        let text = format!(in alloc; "{before}{note}{after}")?;
+        let (ended, output, errors) = call_text(&rt, alloc, text.as_str())?;
+        assert_eq!(rt; ended, status, "{before}{after}");
+        assert_eq!(rt; output.written(), if status == 0 { ROW.as_bytes() } else { b"" }, "{before}{after}");
+        assert_eq!(rt; errors.written(), err.as_bytes(), "{before}{after}");
     }
     Ok(())
 }
