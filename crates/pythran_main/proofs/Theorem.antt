@@ -1,22 +1,20 @@
 -- The promises by status follow from how a command ended.
-use Rattle.std.proofs.Common.{codes, ◌≡◌, ℕ, ◌+◌, ◌<◌, ◌≤◌, ◌⊎◌, inl, inr, Bool, true, false, List, [], ◌∷◌, IfOk, length, take, Option, Some, None, Result, Ok, Err, refl, sym, ◌∙◌, ap, subst, arith}
+use Rattle.std.proofs.Common.{codes, ◌≡◌, ℕ, ◌+◌, ◌<◌, ◌≤◌, ◌⊎◌, inl, inr, true, false, List, [], ◌∷◌, IfOk, length, take, Option, Some, None, Result, Ok, Err, refl, sym, ◌∙◌, subst, arith}
 use Rattle.host_io.specs.Counts.{Rose}
 use Rattle.host_io.specs.Files.{Held, Bytes, IsContent, IsCutContent}
 use Rattle.call_items.specs.Binding.{BoundMeaning, bind}
 use Rattle.krn_base.specs.declared.refusal.Refusal.{Refusal}
 use Rattle.pythran_main.specs.Answer.{Answers, IsOneAnswer, head_of, module_answer, run_answer}
 use Rattle.pythran_main.specs.Delivered.{Delivers, Told}
-use Rattle.pythran_main.specs.Ending.{World, Written, IsUntouched, Gained, Broke, Loaded, IsTooLong, IsUnheard, Serves, Declines, EndsBy, Ends, status_of, module_limit, refused_text, item_text}
-use Rattle.pythran_main.specs.Prepared.{Prepares}
+use Rattle.pythran_main.specs.Ending.{World, IsUntouched, Gained, Loaded, IsTooLong, Serves, Declines, EndsBy, Ends, status_of, module_limit}
 use Rattle.pythran_main.specs.Reading.{IsOneReading}
 use Rattle.pythran_main.specs.Request.{Asked, request}
-use Rattle.pythran_main.specs.Theorem.{status_at, IsDone, IsRefused, IsItemRefused, IsLong, IsLoadFailed, IsWriteFailed, IsFailed, NoneRose, Comes}
+use Rattle.pythran_main.specs.Theorem.{IsDone, IsRefused, IsItemRefused, IsLong, IsFailed, NoneRose, Comes}
 use Rattle.pythran_main.specs.declared.answer.Answer.{Answer}
 use Rattle.pythran_main.specs.declared.answer.Answer.TheVariants as answer
 use Rattle.pythran_main.specs.declared.ending.Ending.{Ending}
 use Rattle.pythran_main.specs.declared.ending.Ending.TheVariants.{Reported, NoRequest, Refused, RefusedItem, LoadFailed, WriteFailed, Unheard, NoMemory, TooLong}
 use Rattle.pythran_main.specs.declared.kernel.ShortKernel.{ShortKernel}
-use Rattle.pythran_main.specs.declared.load.Prepared.TheVariants as ready
 
 -- what was delivered of an answer that the loaded module gives is how the request ends
 pub delivered : (asked : Asked) (w : World) (a : Answer) (e : Ending) → Loaded asked w.held a → Delivers a w.out w.err e → Serves asked w e

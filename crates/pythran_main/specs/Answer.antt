@@ -1,5 +1,5 @@
 -- What a call of a module's kernel comes to: a refusal of the module, the number of a refused item, or a report.
-use Rattle.std.specs.Prelude.{◌≡◌, ℕ, Bool, true, false, if◌then◌else◌, List, [], ◌∷◌, map, is_some, Option, Some, None, Result, Ok, Err}
+use Rattle.std.specs.Prelude.{◌≡◌, ℕ, if◌then◌else◌, List, [], ◌∷◌, map, is_some, Some, Result, Ok, Err}
 use Rattle.std.specs.List.{zip}
 use Rattle.krn_base.specs.declared.kind.Kind.TheVariants.{Int64}
 use Rattle.krn_base.specs.declared.kind.ParamType.TheVariants.{Flat}

@@ -1,5 +1,5 @@
 -- The only kernel whose module a tree may be, by its parts.
-use Rattle.std.specs.Prelude.{◌≡◌, ℕ, Bool, true, false, ◌&&◌, if◌then◌else◌, List, [], ◌∷◌, Option, Some, None, option_and_then}
+use Rattle.std.specs.Prelude.{ℕ, Bool, true, false, ◌&&◌, if◌then◌else◌, List, [], ◌∷◌, Option, Some, None, option_and_then}
 use Rattle.std.specs.Str.{bytes_eq}
 use Rattle.krn_base.specs.declared.operation.BinOp.{BinOp}
 use Rattle.krn_base.specs.declared.place.Loc.{Loc}

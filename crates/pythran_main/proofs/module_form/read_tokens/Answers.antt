@@ -1,4 +1,4 @@
-use Rattle.std.proofs.Common.{◌≡◌, ◌∙◌, sym, subst, Err}
+use Rattle.std.proofs.Common.{◌∙◌, sym, subst, Err}
 use Rattle.krn_base.specs.declared.refusal.Refusal.{Refusal}
 use Rattle.pythran_main.specs.Reading.{IsOneReading}
 use Rattle.pythran_main.proofs.Modules.{not_parsed_at, short, not_short}
