@@ -98,7 +98,7 @@ link_some x link o h =
     let second : link.2 ≡ e.Name o.right = name_some (link.2) o.right (parts.1) in
     let L : BinOp → Loc → Expr → Link = λ op at y. (op, at, y) in
     let linked : link ≡ (o.op, o.at, e.Name o.right) =
-        ap (λ op. L op (link.1) (link.2)) (parts.2) ∙ ap (λ at. L o.op at (link.2)) (parts.3) ∙ ap (L o.op o.at) second in
+    ap (λ op. L op (link.1) (link.2)) (parts.2) ∙ ap (λ at. L o.op at (link.2)) (parts.3) ∙ ap (L o.op o.at) second in
     ap (λ y. e.Chain y (link ∷ [])) first ∙ ap (λ (l : Link). e.Chain (e.Name o.left) (l ∷ [])) linked
 
 operation_some : (y : Expr) (o : Operation) → operation_in y ≡ Some o → y ≡ spelled o
@@ -121,9 +121,11 @@ returned_some : (body : List Stmt) (o : Operation) → returned body ≡ Some o 
 returned_some body o h =
     let value = then_some (option_and_then value_in (only body)) operation_in o h in
     let statement = then_some (only body) value_in (value.0) (value.1) in
-    let returns = value_some (statement.0) (value.0) (statement.2) in
-    (returns.0, only_some body (statement.0) (statement.1) ∙ ap (λ (y : Stmt). y ∷ []) (returns.1)
-    ∙ ap (λ (x : Expr). s.Return (returns.0) (x ∷ []) ∷ []) (operation_some (value.0) o (value.2)))
+    let returns = value_some (statement.0) (value.0) (statement.2) in (
+      returns.0,
+      only_some body (statement.0) (statement.1) ∙ ap (λ (y : Stmt). y ∷ []) (returns.1)
+          ∙ ap (λ (x : Expr). s.Return (returns.0) (x ∷ []) ∷ []) (operation_some (value.0) o (value.2)),
+    )
 
 number_some : (first second x : Name) (n : ℕ) → number_in first second x ≡ Some n → (n ≤ 1) × (x.text ≡ (if n == 0 then first.text else second.text))
 number_some first second x n h = by_tests (bytes_eq x.text first.text) (bytes_eq x.text second.text) refl refl h
@@ -259,9 +261,9 @@ module _ (m : Module) (k : ShortKernel) (is : IsKernelOf m k) where
       ap (λ fs. option_and_then kernel_in (only fs)) is.functions
       ∙ ap (kernel_with f f.params) (returned_is is.places.returns operation_is.left operation_is.right k.op k.at)
       ∙ ap (λ l. numbered f first_name second_name operation_is l (number_in first_name second_name operation_is.right))
-        (number_is k is.places.first is.places.second is.places.left k.left apart is.left_number)
+      (number_is k is.places.first is.places.second is.places.left k.left apart is.left_number)
       ∙ ap (λ r. numbered f first_name second_name operation_is (Some k.left) r)
-        (number_is k is.places.first is.places.second is.places.right k.right apart is.right_number)
+      (number_is k is.places.first is.places.second is.places.right k.right apart is.right_number)
 
   is_whole_module : is_whole m k ≡ true
   is_whole_module =

@@ -247,11 +247,7 @@ fn is_same(left: &[u8], right: &[u8]) -> bool
     left == right
 }
 
-fn is_exported_by(
-    alloc: Global,
-    notes: &[Note],
-    kernel: &ShortKernel,
-) -> Result<bool, AllocError>
+fn is_exported_by(alloc: Global, notes: &[Note], kernel: &ShortKernel) -> Result<bool, AllocError>
     ensures { IfOk result (λ holds. holds ≡ form.is_exported_by (form.only notes.now) kernel.now) }
 {
     match only(notes) {
@@ -339,10 +335,7 @@ fn read_tokens(
 
 /// The kernel whose module the text is, or the refusal of the first rule that refuses it: `Lex`, `Syntax`, or `Profile` where it is no
 /// module of the form.
-pub fn read_module(
-    alloc: Global,
-    text: &[u8],
-) -> Result<Result<ShortKernel, Refusal>, NoMemory>
+pub fn read_module(alloc: Global, text: &[u8]) -> Result<Result<ShortKernel, Refusal>, NoMemory>
     requires { length text.now ≤ 2 ^ 31 }
     ensures { IfOk result (reading.IsOneReading text.now) }
 {

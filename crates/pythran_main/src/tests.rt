@@ -222,54 +222,58 @@ fn answers_of_calls(rt: HostRuntime) -> Result<(), Fail> {
     Ok(())
 }
 
+/// Modules by what stands before the note, the `def`, the returned value, and what is told of them.
 #[test]
 fn readings_of_modules(rt: HostRuntime) -> Result<(), Fail> {
+    let add = "def add(a, b):";
     let note = "#pythran export add(int[], int[])\n";
-    let add = "def add(a, b):\n    return a + b\n";
+    let profile = "refused Profile 1:1\n";
     let rows = [
         // comments, blank lines, texts between, and other layouts of the same tree
-        ("# a sum\n\n", "def add(a, b):  # of rows\n\n    return a + b\n", 0, ""),
-        ("'a text'\n", add, 0, ""),
-        ("", "def add(a, b,):\n return a+b,\n", 0, ""),
-        ("", "def add(a, b): return (a + b)\n", 0, ""),
-        ("", "def add(\n    a, b):\n    return (a\n+ b)", 0, ""),
+        ("# a sum\n\n", "def add(a, b):  # of rows\n", "a + b", ""),
+        ("'a text'\n", add, "a+b", ""),
+        ("", "def add(\n  a, b,):", "a + b,", ""),
+        ("", add, "(a\n+ b)", ""),
         // no tokens
-        ("", "def add(a, b):\n    return a + 9223372036854775808\n", 3, "refused Lex 3:16\n"),
-        ("", "def add(a, b)\n    return a + 9223372036854775808\n", 3, "refused Lex 3:16\n"),
-        ("", "def add(a, b):\n    return a + b\n  # c\n  x\n", 3, "refused Lex 5:3\n"),
-        ("", "def add(a, b):\n    return a $ b\n", 3, "refused Lex 3:14\n"),
+        ("", add, "a + 9223372036854775808", "refused Lex 3:16\n"),
+        ("", "def add(a, b)", "a + 012", "refused Lex 3:16\n"),
+        ("", add, "a + b\n  # c\n  x", "refused Lex 5:3\n"),
+        ("", add, "a $ b", "refused Lex 3:14\n"),
         // no tree
-        ("", "def add(a, b)\n    return a + b\n", 3, "refused Syntax 2:14\n"),
-        ("", "def add(a, b):\n    return a + (b\n", 3, "refused Syntax 4:1\n"),
-        ("", "def add(a, b):\n    return a +\n", 3, "refused Syntax 3:15\n"),
-        ("", "def add(a, b):\n    return a < b < a\n", 3, "refused Syntax 3:18\n"),
-        ("", "x = 1\n", 3, "refused Syntax 2:1\n"),
-        ("def\n", add, 3, "refused Syntax 1:4\n"),
+        ("", "def add(a, b)", "a + b", "refused Syntax 2:14\n"),
+        ("", add, "a + (b", "refused Syntax 4:1\n"),
+        ("", add, "a +", "refused Syntax 3:15\n"),
+        ("", add, "a < b < a", "refused Syntax 3:18\n"),
+        ("", "x = 1", "a + b", "refused Syntax 2:1\n"),
+        ("def\n", add, "a + b", "refused Syntax 1:4\n"),
         // another tree
-        ("", "def add(a, b):\n    return a - b\n", 3, "refused Profile 1:1\n"),
-        ("", "def add(a, b):\n    return (a + b,)\n", 3, "refused Profile 1:1\n"),
-        ("", "def add(a, b):\n    return a + b, a\n", 3, "refused Profile 1:1\n"),
-        ("", "def add(a, b):\n    return a + b + a\n", 3, "refused Profile 1:1\n"),
-        ("", "def add(a, b):\n    return a + 1\n", 3, "refused Profile 1:1\n"),
-        ("", "def add(a, b):\n    return a + c\n", 3, "refused Profile 1:1\n"),
-        ("", "def add(a, b):\n    'a text'\n    return a + b\n", 3, "refused Profile 1:1\n"),
-        ("", "def add(a, b, c):\n    return a + b\n", 3, "refused Profile 1:1\n"),
-        ("", "def add(a, a):\n    return a + a\n", 3, "refused Profile 1:1\n"),
-        ("", "def add(add, b):\n    return add + b\n", 3, "refused Profile 1:1\n"),
-        ("", "def add(a, max):\n    return a + max\n", 3, "refused Profile 1:1\n"),
-        ("", "def sum(a, b):\n    return a + b\n", 3, "refused Profile 1:1\n"),
-        ("import numpy\n", add, 3, "refused Profile 1:1\n"),
-        ("#pythran export add(int[], int[])\n", add, 3, "refused Profile 1:1\n"),
-        ("def f():\n    pass\n", add, 3, "refused Profile 1:1\n"),
-        ("", "", 3, "refused Profile 1:1\n"),
+        ("", add, "a - b", profile),
+        ("", add, "(a + b,)", profile),
+        ("", add, "a + b, a", profile),
+        ("", add, "a + b + a", profile),
+        ("", add, "a + 1", profile),
+        ("", add, "a + c", profile),
+        ("", "def add(a, b):\n    'a text'", "a + b", profile),
+        ("", "def add(a, b, c):", "a + b", profile),
+        ("", "def add(a, a):", "a + a", profile),
+        ("", "def add(add, b):", "add + b", profile),
+        ("", "def add(a, max):", "a + max", profile),
+        ("", "def sum(a, b):", "a + b", profile),
+        ("import numpy\n", add, "a + b", profile),
+        (note, add, "a + b", profile),
+        ("def f():\n    pass\n", add, "a + b", profile),
     ];
     let alloc = rt.alloc();
-    for (before, after, status, err) in rows {
-        let text = format!(in alloc; "{before}{note}{after}")?;
-        let (ended, output, errors) = call_text(&rt, alloc, text.as_str())?;
-        assert_eq!(rt; ended, status, "{before}{after}");
-        assert_eq!(rt; output.written(), if status == 0 { ROW.as_bytes() } else { b"" }, "{before}{after}");
-        assert_eq!(rt; errors.written(), err.as_bytes(), "{before}{after}");
+    for (before, head, value, told) in rows {
+        let text = format!(in alloc; "{before}{note}{head}\n    return {value}\n")?;
+        let (status, out, err) = call_text(&rt, alloc, text.as_str())?;
+        assert_eq!(rt; status, if told.is_empty() { 0 } else { 3 }, "{text}");
+        assert_eq!(rt;
+            out.written(),
+            if told.is_empty() { ROW.as_bytes() } else { b"" },
+            "{text}"
+        );
+        assert_eq!(rt; err.written(), told.as_bytes(), "{text}");
     }
     Ok(())
 }
