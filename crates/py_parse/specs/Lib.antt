@@ -7,3 +7,4 @@ pub mod Grammar
 pub mod Stack
 pub mod Notes
 pub mod Parsed
+pub mod Descended

@@ -4,9 +4,11 @@
 #![tactic(auto)]
 
 mod failure;
+mod laws;
 mod reading;
 mod terminal;
 mod tree;
 
+pub use laws::tree_laws;
 pub use reading::parse;
 pub use tree::{Arg, Expr, Function, Import, Module, Name, Note, Stmt, Sub, Trailer};

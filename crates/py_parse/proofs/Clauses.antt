@@ -1,0 +1,34 @@
+-- The clauses of `parse`, from what the descent answers.
+use Rattle.std.proofs.Common.{◌≡◌, ℕ, Result, IfOk, IfErr, subst}
+use Rattle.krn_base.specs.declared.refusal.Stop.{Stop}
+use Rattle.py_lex.specs.Bytes.{Bytes}
+use Rattle.py_lex.specs.Lexed.{IsLexed}
+use Rattle.py_lex.specs.declared.token.Tokens.{Tokens}
+use Rattle.py_parse.specs.declared.tree.Module.{Module}
+use Rattle.py_parse.specs.Descended.{IsDescended}
+use Rattle.py_parse.specs.Parsed.{IsTree, IsRefusal, IsOnly, Halves}
+use Rattle.py_parse.specs.Parser.{Outcome}
+use Rattle.py_parse.proofs.FollowModules.{AtEnd, parts_end, parts_follow}
+use Rattle.py_parse.proofs.ReadModules.{reads}
+use Rattle.py_parse.proofs.Prefix.{Sound, Complete, sound_by, has_tree, has_refusal, has_only, one_module}
+
+sound : Sound
+sound = sound_by parts_follow (λ depth ts halves rest e. subst (λ (o : Outcome Halves). AtEnd o) e (parts_end depth ts))
+
+complete : Complete
+complete = reads
+
+pub parse_tree : (source : Bytes) (tokens : Tokens) (result : Result Module Stop) → IsDescended source tokens result
+    → IfOk result (λ m. IsTree source tokens m)
+parse_tree source tokens result h = has_tree sound source tokens result h
+
+pub parse_refused : (source : Bytes) (tokens : Tokens) → IsLexed source tokens → (result : Result Module Stop)
+    → IsDescended source tokens result → IfErr result (IsRefusal source tokens)
+parse_refused source tokens lexed result h = has_refusal sound complete source tokens lexed result h
+
+pub parse_only : (source : Bytes) (tokens : Tokens) (result : Result Module Stop) → IsDescended source tokens result
+    → (m : Module) → IsTree source tokens m → IsOnly m result
+parse_only source tokens result h m is = has_only complete source tokens result h m is
+
+pub one_tree : (source : Bytes) (tokens : Tokens) (m n : Module) → IsTree source tokens m → IsTree source tokens n → m ≡ n
+one_tree source tokens m n is is' = one_module complete source tokens m n is is'

@@ -1,0 +1,189 @@
+-- What stands before a refused lexeme is the longest part that begins lexemes with a tree, and the clauses of `parse` by that.
+use Rattle.std.proofs.Common.{◌≡◌, ℕ, zero, suc, Bool, true, false, List, [], ◌∷◌, ◌++◌, Result, Ok, Err, IfOk, IfErr, refl, ap, sym, subst, ◌∙◌, append_assoc, if◌then◌else◌}
+use Rattle.krn_base.specs.declared.place.Loc.{Loc}
+use Rattle.krn_base.specs.declared.refusal.Stop.{Stop}
+use Rattle.krn_base.specs.declared.refusal.Stop.TheVariants as stop
+use Rattle.py_lex.specs.Bytes.{Bytes}
+use Rattle.py_lex.specs.Lexed.{EndsOnce, IsLexed, text_of}
+use Rattle.py_lex.specs.declared.token.Token.{Token}
+use Rattle.py_lex.specs.declared.token.Tokens.{Tokens}
+use Rattle.py_lex.specs.declared.token.TokenKind.{TokenKind}
+use Rattle.py_parse.specs.declared.terminal.Terminal.TheVariants as t
+use Rattle.py_parse.specs.declared.tree.Import.{Import}
+use Rattle.py_parse.specs.declared.tree.Function.{Function}
+use Rattle.py_parse.specs.declared.tree.Module.{Module}
+use Rattle.py_parse.specs.declared.tree.Note.{Note}
+use Rattle.py_parse.specs.Grammar as g
+use Rattle.py_parse.specs.Lexemes.{Lexeme, Lexemes, lexeme, lexemes, terminal, same}
+use Rattle.py_parse.specs.Parser.{Outcome, kind, place}
+use Rattle.py_parse.specs.Blocks.{parts}
+use Rattle.py_parse.specs.Notes.{notes_of}
+use Rattle.py_parse.specs.Stack.{Stack, N, Parts, run, Accepted, Refused, RefusedAt}
+use Rattle.py_parse.specs.Parsed.{levels, Halves, IsModule, IsTree, Begins, IsRefusedAt, IsRefusal, IsOnly}
+use Rattle.py_parse.specs.Descended.{IsDescended}
+use Rattle.py_parse.proofs.Follows.{Follows, Fate}
+use Rattle.py_parse.proofs.Machine.{same_self, Accepts, not_both, suffix, no_longer}
+use Rattle.py_parse.proofs.Plain.{before_end, viable}
+
+abbrev pub bottom : ℕ → Stack
+bottom depth = N Parts depth ∷ []
+
+-- ---- what the descent has to do with the grammar and with the stack
+
+abbrev pub Goes : ℕ → Lexemes → Outcome Halves → Type 0
+Goes depth ts (Ok p) = IsModule depth p.0 ts × Accepts (bottom depth) ts
+Goes depth ts (Err rest) = RefusedAt (bottom depth) ts rest
+
+-- what it reads is right, and the stack ends as it does
+abbrev pub Sound : Type 0
+Sound = (depth : ℕ) (ts : Lexemes) → Goes depth ts (parts depth ts)
+
+-- what the grammar gives is read
+abbrev pub Complete : Type 0
+Complete = (depth : ℕ) (halves : Halves) (ts : Lexemes) → IsModule depth halves ts → (rest : Lexemes) × (parts depth ts ≡ Ok (halves, rest))
+
+-- where it ends before an End alone, this follows from its following the rule
+goes_by : (depth : ℕ) (ts : Lexemes) (o : Outcome Halves) → Fate (g.parts depth) (bottom depth) ts o
+    → ((halves : Halves) (rest : Lexemes) → o ≡ Ok (halves, rest) → kind rest ≡ t.End) → Goes depth ts o
+goes_by depth ts (Ok p) h end =
+    let ended : kind p.1 ≡ t.End = end p.0 p.1 refl in
+    let first = (h.leads []).by 1 in
+    let last : run 1 [] p.1 ≡ Accepted =
+    ap (λ (b : Bool). if b then Accepted else Refused p.1) (ap (λ k. same k t.End) ended ∙ same_self t.End) in
+    ((h.used, p.1, h.parts, h.is, ended), (first.0, first.1 ∙ last))
+goes_by depth ts (Err rest) h end = h []
+
+pub sound_by : ((depth : ℕ) (ts : Lexemes) → Follows (g.parts depth) (bottom depth) ts (parts depth ts))
+    → ((depth : ℕ) (ts : Lexemes) (halves : Halves) (rest : Lexemes) → parts depth ts ≡ Ok (halves, rest) → kind rest ≡ t.End) → Sound
+sound_by follow end depth ts = goes_by depth ts (parts depth ts) (follow depth ts).fate (end depth ts)
+
+same_halves : (x y : Halves) (r q : Lexemes) → ◌≡◌ {A = Outcome Halves} (Ok (x, r)) (Ok (y, q)) → x ≡ y
+same_halves x y r q e = let same_pair : ◌≡◌ {A = Halves × Lexemes} (x, r) (y, q) = cc in ap (λ (p : Halves × Lexemes). p.0) same_pair
+
+not_refused : {A : Type 0} (p : Halves × Lexemes) (rest : Lexemes) → ◌≡◌ {A = Outcome Halves} (Ok p) (Err rest) → A
+not_refused p rest e = absurd cc
+
+-- no lexemes have two trees
+pub one_tree : Complete → (depth : ℕ) (x y : Halves) (ts : Lexemes) → IsModule depth x ts → IsModule depth y ts → x ≡ y
+one_tree complete depth x y ts is is' =
+    let p = complete depth x ts is in
+    let q = complete depth y ts is' in
+    same_halves x y p.0 q.0 (sym p.1 ∙ q.1)
+
+tree_of : (depth : ℕ) (ts : Lexemes) (o : Outcome Halves) → Goes depth ts o → Accepts (bottom depth) ts → (halves : Halves) × IsModule depth halves ts
+tree_of depth ts (Ok p) goes accepts = (p.0, goes.0)
+tree_of depth ts (Err rest) goes accepts = absurd (not_both (bottom depth) ts rest accepts goes)
+
+pub accepted_tree : Sound → (depth : ℕ) (ts : Lexemes) → Accepts (bottom depth) ts → (halves : Halves) × IsModule depth halves ts
+accepted_tree sound depth ts accepts = tree_of depth ts (parts depth ts) (sound depth ts) accepts
+
+pub tree_accepted : Sound → Complete → (depth : ℕ) (halves : Halves) (ts : Lexemes) → IsModule depth halves ts → Accepts (bottom depth) ts
+tree_accepted sound complete depth halves ts is =
+    let p = complete depth halves ts is in
+    let goes : Goes depth ts (Ok (halves, p.0)) = subst (λ (o : Outcome Halves). Goes depth ts o) p.1 (sound depth ts) in
+    goes.1
+
+-- ---- where it is refused
+
+pub refused_here : Sound → Complete → (depth : ℕ) (used : Lexemes) (at : Lexeme) (rest : Lexemes)
+    → parts depth (used ++ at ∷ rest) ≡ Err (at ∷ rest) → IsRefusedAt depth (used ++ at ∷ rest) at
+refused_here sound complete depth used at rest e =
+    let refused : RefusedAt (bottom depth) (used ++ at ∷ rest) (at ∷ rest) =
+    subst (λ (o : Outcome Halves). Goes depth (used ++ at ∷ rest) o) e (sound depth (used ++ at ∷ rest)) in
+    record {
+      used = used;
+      rest = rest;
+      parts = refl;
+      no_row = refused;
+      no_tree = λ halves is.
+          let p = complete depth halves (used ++ at ∷ rest) is in
+          not_refused (halves, p.0) (at ∷ rest) (sym p.1 ∙ e);
+      begins =
+          let goes = viable depth used (at ∷ rest) refused in
+          let tree = accepted_tree sound (suc depth) (used ++ goes.0) goes.1 in
+          (tree.0, goes.0, tree.1);
+      ends = λ h.
+          let is : IsModule depth h.0 (used ++ at ∷ h.1) = subst (λ z. IsModule depth h.0 z) (append_assoc used (at ∷ []) h.1) h.2 in
+          no_longer (bottom depth) used at rest h.1 refused (tree_accepted sound complete depth h.0 (used ++ at ∷ h.1) is);
+    }
+
+-- a list that an end ends
+pub record EndsIn (ts : Lexemes) : Type 0 where
+  pub before : Lexemes
+  pub last : Lexeme
+  pub whole : ts ≡ before ++ last ∷ []
+  pub is : last.kind ≡ t.End
+
+pub record Refusal (depth : ℕ) (ts rest : Lexemes) : Type 0 where
+  pub at : Lexeme
+  pub loc : place rest ≡ at.loc
+  pub is : IsRefusedAt depth ts at
+
+refusal_by : Sound → Complete → (depth : ℕ) (ts used u : Lexemes) (last : Lexeme) (rest : Lexemes) → ts ≡ used ++ rest → rest ≡ u ++ last ∷ []
+    → parts depth ts ≡ Err rest → Refusal depth ts rest
+refusal_by sound complete depth ts used [] last rest cut end e =
+    let all : ts ≡ used ++ last ∷ [] = cut ∙ ap (λ z. used ++ z) end in
+    let there : parts depth (used ++ last ∷ []) ≡ Err (last ∷ []) = ap (parts depth) (sym all) ∙ (e ∙ ap (λ z. Err z) end) in
+    record { at = last; loc = ap place end; is = subst (λ z. IsRefusedAt depth z last) (sym all) (refused_here sound complete depth used last [] there) }
+refusal_by sound complete depth ts used (x ∷ u) last rest cut end e =
+    let all : ts ≡ used ++ x ∷ (u ++ last ∷ []) = cut ∙ ap (λ z. used ++ z) end in
+    let there : parts depth (used ++ x ∷ (u ++ last ∷ [])) ≡ Err (x ∷ (u ++ last ∷ [])) = ap (parts depth) (sym all) ∙ (e ∙ ap (λ z. Err z) end) in
+    record { at = x; loc = ap place end; is = subst (λ z. IsRefusedAt depth z x) (sym all) (refused_here sound complete depth used x (u ++ last ∷ []) there) }
+
+-- where the descent refuses a lexeme of a list that an end ends
+pub refusal : Sound → Complete → (depth : ℕ) (ts rest : Lexemes) → EndsIn ts → parts depth ts ≡ Err rest → Refusal depth ts rest
+refusal sound complete depth ts rest ends e =
+    let refused : RefusedAt (bottom depth) ts rest = subst (λ (o : Outcome Halves). Goes depth ts o) e (sound depth ts) in
+    let cut = suffix (bottom depth) ts rest refused in
+    let end = before_end refused.0 (bottom depth) ends.before ends.last rest (refl, tt) ends.is
+    (subst (λ z. run refused.0 (bottom depth) z ≡ Refused rest) ends.whole refused.1) in
+    refusal_by sound complete depth ts cut.0 end.0 ends.last rest cut.1 end.1 e
+
+-- ---- the clauses of `parse`
+
+pub ends_in : (source : Bytes) (tokens : List Token) → EndsOnce tokens → EndsIn (lexemes source tokens)
+unfolding terminal
+ends_in source [] once = absurd once
+ends_in source (x ∷ []) once =
+    record { before = []; last = lexeme source x; whole = refl; is = ap (λ (k : TokenKind). terminal k (text_of source x)) once }
+ends_in source (x ∷ y ∷ tokens) once =
+    let h = ends_in source (y ∷ tokens) once.1 in
+    record { before = lexeme source x ∷ h.before; last = h.last; whole = ap (λ z. lexeme source x ∷ z) h.whole; is = h.is }
+
+pub has_tree : Sound → (source : Bytes) (tokens : Tokens) (result : Result Module Stop) → IsDescended source tokens result
+    → IfOk result (λ m. IsTree source tokens m)
+has_tree sound source tokens (Ok m) h =
+    let ts : Lexemes = lexemes source tokens.tokens in
+    let goes : Goes levels ts (Ok ((m.imports, m.functions), h.0)) = subst (λ (o : Outcome Halves). Goes levels ts o) h.1 (sound levels ts) in
+    record { grammar = goes.0; notes = h.2 }
+has_tree sound source tokens (Err (stop.Refused r)) h = tt
+has_tree sound source tokens (Err stop.Memory) h = tt
+
+pub has_refusal : Sound → Complete → (source : Bytes) (tokens : Tokens) → IsLexed source tokens → (result : Result Module Stop)
+    → IsDescended source tokens result → IfErr result (IsRefusal source tokens)
+has_refusal sound complete source tokens lexed (Ok m) h = tt
+has_refusal sound complete source tokens lexed (Err (stop.Refused r)) h =
+    let there = refusal sound complete levels (lexemes source tokens.tokens) h.1 (ends_in source tokens.tokens lexed.ends_once) h.2 in
+    (h.0, there.at, h.3 ∙ there.loc, there.is)
+has_refusal sound complete source tokens lexed (Err stop.Memory) h = tt
+
+same_module : (m n : Module) → ◌≡◌ {A = Halves} (m.imports, m.functions) (n.imports, n.functions) → m.notes ≡ n.notes → m ≡ n
+same_module m n halves notes =
+    let R : Halves → List Note → Module = λ h z. record { imports = h.0; functions = h.1; notes = z } in
+    ap (λ (h : Halves). R h m.notes) halves ∙ ap (R (n.imports, n.functions)) notes
+
+-- a source and its tokens have one tree at the most
+pub one_module : Complete → (source : Bytes) (tokens : Tokens) (m n : Module) → IsTree source tokens m → IsTree source tokens n → m ≡ n
+one_module complete source tokens m n is is' =
+    same_module m n (one_tree complete levels (m.imports, m.functions) (n.imports, n.functions) (lexemes source tokens.tokens) is.grammar is'.grammar)
+    (is.notes ∙ sym is'.notes)
+
+pub has_only : Complete → (source : Bytes) (tokens : Tokens) (result : Result Module Stop) → IsDescended source tokens result
+    → (m : Module) → IsTree source tokens m → IsOnly m result
+has_only complete source tokens (Ok x) h m is =
+    let p = complete levels (m.imports, m.functions) (lexemes source tokens.tokens) is.grammar in
+    same_module x m (same_halves (x.imports, x.functions) (m.imports, m.functions) h.0 p.0 (sym h.1 ∙ p.1)) (h.2 ∙ sym is.notes)
+has_only complete source tokens (Err (stop.Refused r)) h m is =
+    let p = complete levels (m.imports, m.functions) (lexemes source tokens.tokens) is.grammar in
+    not_refused ((m.imports, m.functions), p.0) h.1 (sym p.1 ∙ h.2)
+has_only complete source tokens (Err stop.Memory) h m is = tt
