@@ -1,5 +1,5 @@
 -- A bound call of a short kernel has two rows for arguments.
-use Rattle.std.proofs.Common.{◌≡◌, ℕ, List, [], ◌∷◌, map, length, slice_index_or, Option, Some, None, Result, Ok, Err, Bool, true, false, refl, sym, ◌∙◌, ap, subst, if◌then◌else◌}
+use Rattle.std.proofs.Common.{◌≡◌, ℕ, List, [], ◌∷◌, map, Option, Some, None, Result, Ok, Err, Bool, true, false, refl, sym, subst}
 use Rattle.std.specs.List.{position}
 use Rattle.std.specs.Option.{unwrap_or}
 use Rattle.call_items.specs.Binding.{BoundMeaning, answer, meaning, bind, checked, unless, refusal, bound_at, fitting, fits}
@@ -7,7 +7,7 @@ use Rattle.call_items.specs.Reading.{read_from}
 use Rattle.call_items.specs.declared.head.KernelHead.{KernelHead}
 use Rattle.call_items.specs.declared.items.Item.{Item}
 use Rattle.call_items.specs.declared.head.BoundCall.{BoundCall}
-use Rattle.eager_rules.specs.State.{Bound, bound_to}
+use Rattle.eager_rules.specs.State.{bound_to}
 use Rattle.pythran_main.specs.Answer.{head_of}
 use Rattle.pythran_main.specs.Rows.{IsRowPair}
 use Rattle.pythran_main.specs.declared.kernel.ShortKernel.{ShortKernel}

@@ -1,5 +1,5 @@
 mod Bindings
 mod Lists
-mod Modules
+pub mod Modules
 mod Nests
 mod Theorem

@@ -1,39 +1,202 @@
--- A module's text tells its kernel.
-use Rattle.std.proofs.Common.{◌≡◌, ◌≢◌, ℕ, zero, suc, ◌+◌, ◌≤◌, ◌==◌, Bool, true, false, not, ◌&&◌, List, [], ◌∷◌, ◌++◌, length, take, drop, slice_index, codes, refl, sym, ◌∙◌, ap, subst, inl, inr, ◌⊎◌, arith, if◌then◌else◌, Option, Some, None, IsTrue}
-use Rattle.std.proofs.lemmas.List.{append_assoc, append-nil}
-use Rattle.std.proofs.Math.Seq.{drop-append_seam, take-append_seam}
+-- A tree tells its kernel, and a module's bytes their reading.
+use Rattle.std.proofs.Common.{◌≡◌, ℕ, zero, suc, ◌≤◌, ◌==◌, Bool, true, false, not, ◌&&◌, List, [], ◌∷◌, refl, sym, ◌∙◌, ap, subst, inl, inr, arith, if◌then◌else◌, Option, Some, None, Result, Ok, Err, rules}
 use Rattle.std.proofs.lemmas.Slice.Eq.{bytes_eq-Decides}
-use Rattle.std.specs.List.{list_all, prefix_len}
+use Rattle.std.specs.Prelude.{option_and_then}
 use Rattle.std.specs.Str.{bytes_eq}
 use Rattle.krn_base.specs.declared.operation.BinOp.{BinOp}
-use Rattle.krn_base.specs.declared.operation.BinOp.TheVariants as b
+use Rattle.krn_base.specs.declared.place.Loc.{Loc}
+use Rattle.krn_base.specs.declared.refusal.Refusal.{Refusal}
+use Rattle.krn_base.specs.declared.refusal.Rule.{Rule}
+use Rattle.krn_base.specs.declared.refusal.Stop.{Stop}
+use Rattle.krn_base.specs.declared.refusal.Stop.TheVariants as stop
+use Rattle.py_lex.specs.Lexed as lexed
+use Rattle.py_lex.specs.declared.token.Tokens.{Tokens}
+use Rattle.py_parse.specs.Parsed as parsed
+use Rattle.py_parse.specs.declared.tree.Arg.{Arg}
+use Rattle.py_parse.specs.declared.tree.Expr.{Expr, out-Expr, the_lemmas}
+use Rattle.py_parse.specs.declared.tree.Expr.TheOpen.{Expr-F}
+use Rattle.py_parse.specs.declared.tree.Expr.TheVariants as e
+use Rattle.py_parse.specs.declared.tree.Function.{Function}
+use Rattle.py_parse.specs.declared.tree.Import.{Import}
+use Rattle.py_parse.specs.declared.tree.Module.{Module}
+use Rattle.py_parse.specs.declared.tree.Name.{Name}
+use Rattle.py_parse.specs.declared.tree.Note.{Note}
+use Rattle.py_parse.specs.declared.tree.Stmt.{Stmt, out-Stmt}
+use Rattle.py_parse.specs.declared.tree.Stmt as stmts
+use Rattle.py_parse.specs.declared.tree.Stmt.TheOpen.{Stmt-F}
+use Rattle.py_parse.specs.declared.tree.Stmt.TheVariants as s
+use Rattle.py_parse.specs.declared.tree.Sub.{Sub}
+use Rattle.py_parse.specs.declared.tree.Trailer.{Trailer}
+use Rattle.pythran_main.specs.Form.{Operation, Link, only, name_by, name_in, named, with_link, operation_by, operation_in, value_by, value_in, returned, number_in, numbered, kernel_of, kernel_with, kernel_in, candidate, is_exported_by, is_empty, is_whole, whole, form_of}
+use Rattle.pythran_main.specs.Module.{are_names, is_free_name, is_short, parameter, Places, function_of, export_text, IsKernelOf}
+use Rattle.pythran_main.specs.Reading.{HasTree, IsNotLexed, IsNotParsed, IsReading, IsOneReading, no_module}
 use Rattle.pythran_main.specs.declared.kernel.ShortKernel.{ShortKernel}
-use Rattle.pythran_main.specs.Module.{is_word, is_free_name, are_names, parameter, sign, is_short, module_text, IsTextOf, IsModuleOf, word_len, behind_word, word, operation_of, number_in, kernel_of, from_name, from_first, from_second, from_left, from_operator, candidate}
-use Rattle.pythran_main.specs.Answer.{IsReading}
 
--- no word goes on at the front
-abbrev stops : List ℕ → Bool
-stops [] = true
-stops (c ∷ z) = not (is_word c)
+-- ---- what the nodes of a tree are
 
-not_word : (t : Bool) (n : ℕ) → not t ≡ true → (if t then 1 + n else 0) ≡ 0
-not_word true n e = cc
-not_word false n e = refl
+abbrev Layer : Type 0
+Layer = Expr-F Expr Sub Trailer Arg
 
-one_more : (t all : Bool) (n m : ℕ) → (all ≡ true → n ≡ m) → (t && all) ≡ true → (if t then 1 + n else 0) ≡ suc m
-one_more true all n m same e = ap (λ i. 1 + i) (same e) ∙ omega arith
-one_more false all n m same e = cc
+name_out : (x : Name) → out-Expr (e.Name x) ≡ Expr-F.Name x
+name_out x = search (rules, the_lemmas)
 
-word_len_at : (a rest : List ℕ) → list_all is_word a ≡ true → stops rest ≡ true → word_len (a ++ rest) ≡ length a
-word_len_at [] [] h stop = refl
-word_len_at [] (c ∷ z) h stop = not_word (is_word c) (word_len z) stop
-word_len_at (x ∷ a) rest h stop = one_more (is_word x) (list_all is_word a) (word_len (a ++ rest)) (length a) (λ e. word_len_at a rest e stop) h
+chain_out : (x : Expr) (links : List Link) → out-Expr (e.Chain x links) ≡ Expr-F.Chain x links
+chain_out x links = search (rules, the_lemmas)
 
-word_at : (a rest : List ℕ) → list_all is_word a ≡ true → stops rest ≡ true → word (a ++ rest) ≡ a
-word_at a rest h stop = ap (λ n. take n (a ++ rest)) (word_len_at a rest h stop) ∙ take-append_seam a rest
+return_out : (at : Loc) (xs : List Expr) → out-Stmt (s.Return at xs) ≡ Stmt-F.Return at xs
+return_out at xs = search (rules, stmts.the_lemmas)
 
-behind_at : (n : ℕ) (a rest : List ℕ) → list_all is_word a ≡ true → stops rest ≡ true → behind_word n (a ++ rest) ≡ drop n rest
-behind_at n a rest h stop = ap (drop n) (ap (λ m. drop m (a ++ rest)) (word_len_at a rest h stop) ∙ drop-append_seam a rest)
+out_name : (y : Expr) (x : Name) → out-Expr y ≡ Expr-F.Name x → y ≡ e.Name x
+out_name y x is = search (rules, the_lemmas, is)
+
+out_chain : (y : Expr) (x : Expr) (links : List Link) → out-Expr y ≡ Expr-F.Chain x links → y ≡ e.Chain x links
+out_chain y x links is = search (rules, the_lemmas, is)
+
+out_return : (y : Stmt) (at : Loc) (xs : List Expr) → out-Stmt y ≡ Stmt-F.Return at xs → y ≡ s.Return at xs
+out_return y at xs is = search (rules, stmts.the_lemmas, is)
+
+-- ---- what is found where something is found
+
+some_same : {A : Type 0} (x y : A) → Some x ≡ Some y → x ≡ y
+some_same x y h = cc
+
+none_some : {A : Type 0} (x : A) → None ≡ Some x → ⊥
+none_some x h = cc
+
+then_some : {A B : Type 0} (o : Option A) (f : A → Option B) (y : B) → option_and_then f o ≡ Some y → (x : A) × (o ≡ Some x) × (f x ≡ Some y)
+then_some (Some x) f y h = (x, refl, h)
+then_some None f y h = absurd (none_some y h)
+
+only_some : {A : Type 0} (xs : List A) (x : A) → only xs ≡ Some x → xs ≡ x ∷ []
+only_some [] x h = absurd (none_some x h)
+only_some (y ∷ []) x h = ap (λ z. z ∷ []) (some_same y x h)
+only_some (y ∷ z ∷ zs) x h = absurd (none_some x h)
+
+name_some : (y : Expr) (x : Name) → name_in y ≡ Some x → y ≡ e.Name x
+name_some y x h = by_layer (out-Expr y) refl h
+  where
+    by_layer : (l : Layer) → out-Expr y ≡ l → name_by l ≡ Some x → y ≡ e.Name x
+    by_layer (Expr-F.Name z) is h = out_name y z is ∙ ap (λ (n : Name). e.Name n) (some_same z x h)
+    by_layer _ is h = absurd (none_some x h)
+
+named_some : (l r : Option Name) (op : BinOp) (at : Loc) (o : Operation) → named l r op at ≡ Some o → (l ≡ Some o.left) × (r ≡ Some o.right) × (op ≡ o.op) × (at ≡ o.at)
+named_some (Some x) (Some y) op at o h =
+    let same : record { left = x; op = op; at = at; right = y } ≡ o = some_same _ o h in
+    (ap (λ (o : Operation). Some o.left) same, ap (λ (o : Operation). Some o.right) same, ap (λ (o : Operation). o.op) same, ap (λ (o : Operation). o.at) same)
+named_some (Some x) None op at o h = absurd (none_some o h)
+named_some None y op at o h = absurd (none_some o h)
+
+-- the expression of an operation
+abbrev spelled : Operation → Expr
+spelled o = e.Chain (e.Name o.left) ((o.op, o.at, e.Name o.right) ∷ [])
+
+link_some : (x : Expr) (link : Link) (o : Operation) → with_link x link ≡ Some o → e.Chain x (link ∷ []) ≡ spelled o
+link_some x link o h =
+    let parts = named_some (name_in x) (name_in link.2) link.0 link.1 o h in
+    let first : x ≡ e.Name o.left = name_some x o.left (parts.0) in
+    let second : link.2 ≡ e.Name o.right = name_some (link.2) o.right (parts.1) in
+    let L : BinOp → Loc → Expr → Link = λ op at y. (op, at, y) in
+    let linked : link ≡ (o.op, o.at, e.Name o.right) =
+    ap (λ op. L op (link.1) (link.2)) (parts.2) ∙ ap (λ at. L o.op at (link.2)) (parts.3) ∙ ap (L o.op o.at) second in
+    ap (λ y. e.Chain y (link ∷ [])) first ∙ ap (λ (l : Link). e.Chain (e.Name o.left) (l ∷ [])) linked
+
+operation_some : (y : Expr) (o : Operation) → operation_in y ≡ Some o → y ≡ spelled o
+operation_some y o h = by_layer (out-Expr y) refl h
+  where
+    by_layer : (l : Layer) → out-Expr y ≡ l → operation_by l ≡ Some o → y ≡ spelled o
+    by_layer (Expr-F.Chain x links) is h =
+        let found = then_some (only links) (with_link x) o h in
+        out_chain y x links is ∙ ap (λ (ls : List Link). e.Chain x ls) (only_some links (found.0) (found.1)) ∙ link_some x (found.0) o (found.2)
+    by_layer _ is h = absurd (none_some o h)
+
+value_some : (y : Stmt) (x : Expr) → value_in y ≡ Some x → (at : Loc) × (y ≡ s.Return at (x ∷ []))
+value_some y x h = by_layer (out-Stmt y) refl h
+  where
+    by_layer : (l : Stmt-F Stmt) → out-Stmt y ≡ l → value_by l ≡ Some x → (at : Loc) × (y ≡ s.Return at (x ∷ []))
+    by_layer (Stmt-F.Return at xs) is h = (at, out_return y at xs is ∙ ap (λ (zs : List Expr). s.Return at zs) (only_some xs x h))
+    by_layer _ is h = absurd (none_some x h)
+
+returned_some : (body : List Stmt) (o : Operation) → returned body ≡ Some o → (at : Loc) × (body ≡ s.Return at (spelled o ∷ []) ∷ [])
+returned_some body o h =
+    let value = then_some (option_and_then value_in (only body)) operation_in o h in
+    let statement = then_some (only body) value_in (value.0) (value.1) in
+    let returns = value_some (statement.0) (value.0) (statement.2) in (
+      returns.0,
+      only_some body (statement.0) (statement.1) ∙ ap (λ (y : Stmt). y ∷ []) (returns.1)
+          ∙ ap (λ (x : Expr). s.Return (returns.0) (x ∷ []) ∷ []) (operation_some (value.0) o (value.2)),
+    )
+
+number_some : (first second x : Name) (n : ℕ) → number_in first second x ≡ Some n → (n ≤ 1) × (x.text ≡ (if n == 0 then first.text else second.text))
+number_some first second x n h = by_tests (bytes_eq x.text first.text) (bytes_eq x.text second.text) refl refl h
+  where
+    by_tests : (a b : Bool) → bytes_eq x.text first.text ≡ a → bytes_eq x.text second.text ≡ b → (if a then Some 0 else (if b then Some 1 else None)) ≡ Some n
+        → (n ≤ 1) × (x.text ≡ (if n == 0 then first.text else second.text))
+    by_tests true b is_a is_b h =
+        let P : ℕ → Type 0 = λ n. (n ≤ 1) × (x.text ≡ (if n == 0 then first.text else second.text)) in
+        subst P (some_same 0 n h) (omega arith, (bytes_eq-Decides x.text first.text).0 is_a)
+    by_tests false true is_a is_b h =
+        let P : ℕ → Type 0 = λ n. (n ≤ 1) × (x.text ≡ (if n == 0 then first.text else second.text)) in
+        subst P (some_same 1 n h) (omega arith, (bytes_eq-Decides x.text second.text).0 is_b)
+    by_tests false false is_a is_b h = absurd (none_some n h)
+
+-- what a function that has a kernel is
+record IsOf (f : Function) (k : ShortKernel) : Type 0 where
+  pub places : Places
+  pub is : f ≡ function_of k places
+  pub left_number : k.left ≤ 1
+  pub right_number : k.right ≤ 1
+
+abbrev named_by : Name → List ℕ → Name
+named_by x text = record { text = text; loc = x.loc }
+
+abbrev made : (f : Function) (first second : Name) (o : Operation) (left right : ℕ) → ShortKernel
+made f first second o left right = record {
+  name = f.name.text;
+  first = first.text;
+  second = second.text;
+  op = o.op;
+  left = left;
+  right = right;
+  at = o.at;
+  weight = f.weight;
+}
+
+made_is : (f : Function) (first second : Name) (o : Operation) (left right : ℕ) (at : Loc) → f.params ≡ first ∷ second ∷ []
+    → f.body ≡ s.Return at (spelled o ∷ []) ∷ [] → (left ≤ 1) × (o.left.text ≡ (if left == 0 then first.text else second.text))
+    → (right ≤ 1) × (o.right.text ≡ (if right == 0 then first.text else second.text)) → IsOf f (made f first second o left right)
+made_is f first second o left right at params body l r = record {
+  places = record { name = f.name.loc; first = first.loc; second = second.loc; returns = at; left = o.left.loc; right = o.right.loc };
+  is =
+      let F : List Name → List Stmt → Function = λ ps b. record { name = f.name; params = ps; body = b; weight = f.weight } in
+      let S : Name → Name → List Stmt = λ x y. s.Return at (e.Chain (e.Name x) ((o.op, o.at, e.Name y) ∷ []) ∷ []) ∷ [] in
+      ap (λ ps. F ps f.body) params ∙ ap (F (first ∷ second ∷ [])) (body ∙ ap (λ t. S (named_by o.left t) o.right) (l.1)
+      ∙ ap (λ t. S (named_by o.left (if left == 0 then first.text else second.text)) (named_by o.right t)) (r.1));
+  left_number = l.0;
+  right_number = r.0;
+}
+
+numbered_some : (f : Function) (first second : Name) (o : Operation) (l r : Option ℕ) (k : ShortKernel) → numbered f first second o l r ≡ Some k
+    → (left right : ℕ) × (l ≡ Some left) × (r ≡ Some right) × (made f first second o left right ≡ k)
+numbered_some f first second o (Some left) (Some right) k h = (left, right, refl, refl, some_same _ k h)
+numbered_some f first second o (Some left) None k h = absurd (none_some k h)
+numbered_some f first second o None r k h = absurd (none_some k h)
+
+with_some : (f : Function) (params : List Name) (o : Option Operation) (k : ShortKernel) → kernel_with f params o ≡ Some k
+    → (first second : Name) × (x : Operation) × (params ≡ first ∷ second ∷ []) × (o ≡ Some x) × (kernel_of f first second x ≡ Some k)
+with_some f (first ∷ second ∷ []) (Some x) k h = (first, second, x, refl, refl, h)
+with_some f [] o k h = absurd (none_some k h)
+with_some f (first ∷ []) o k h = absurd (none_some k h)
+with_some f (first ∷ second ∷ []) None k h = absurd (none_some k h)
+with_some f (first ∷ second ∷ third ∷ more) o k h = absurd (none_some k h)
+
+kernel_some : (f : Function) (k : ShortKernel) → kernel_in f ≡ Some k → IsOf f k
+kernel_some f k h =
+    let (first, second, o, params, found, is) = with_some f f.params (returned f.body) k h in
+    let (left, right, l, r, same) = numbered_some f first second o (number_in first second o.left) (number_in first second o.right) k is in
+    let body = returned_some f.body o found in
+    subst (IsOf f) same (made_is f first second o left right (body.0) params (body.1) (number_some first second o.left left l) (number_some first second o.right right r))
+
+-- ---- a module of a kernel has no other candidate
 
 both : (a b : Bool) → (a && b) ≡ true → (a ≡ true) × (b ≡ true)
 both true b h = (refl, h)
@@ -43,179 +206,221 @@ not_false : (a : Bool) → not a ≡ true → a ≡ false
 not_false true h = cc
 not_false false h = refl
 
-free_is_word : (name : List ℕ) → is_free_name name ≡ true → list_all is_word name ≡ true
-free_is_word name h = (both _ _ ((both _ _ ((both _ _ h).1)).1)).0
+equal_bytes : (x : List ℕ) → bytes_eq x x ≡ true
+equal_bytes x = (bytes_eq-Decides x x).1 refl
 
--- a text by its pieces, one behind the other
-abbrev pieces : List ℕ → List ℕ → List ℕ → List ℕ → List ℕ → List ℕ → List ℕ
-pieces name first second left mark last =
-    codes "#pythran export " ++ (name ++ (codes "(int[], int[])\ndef " ++ (name ++ (codes "(" ++ (first ++ (codes ", "
-    ++ (second ++ (codes "):\n    return " ++ (left ++ (codes " " ++ (mark ++ (codes " " ++ last))))))))))))
+number_is : (k : ShortKernel) (first second left : Loc) (n : ℕ) → bytes_eq k.second k.first ≡ false → n ≤ 1
+    → number_in (record { text = k.first; loc = first }) (record { text = k.second; loc = second }) (record { text = parameter k n; loc = left }) ≡ Some n
+number_is k first second left zero apart h =
+    ap (λ (t : Bool). if t then Some 0 else (if bytes_eq k.first k.second then Some 1 else None)) (equal_bytes k.first)
+number_is k first second left (suc zero) apart h =
+    ap (λ (t : Bool). if t then Some 0 else (if bytes_eq k.second k.second then Some 1 else None)) apart
+    ∙ ap (λ (t : Bool). if t then Some 1 else None) (equal_bytes k.second)
+number_is k first second left (suc (suc n)) apart h = absurd (omega arith)
 
-module _ (name first second left right tail : List ℕ) (c : ℕ) (n : list_all is_word name ≡ true) (f : list_all is_word first ≡ true)
-    (s : list_all is_word second ≡ true) (l : list_all is_word left ≡ true) (r : list_all is_word right ≡ true) (stop : stops tail ≡ true) where
-  abbrev text : List ℕ
-  text = pieces name first second left (c ∷ []) (right ++ tail)
+name_found : (x : Name) → name_in (e.Name x) ≡ Some x
+name_found x = ap name_by (name_out x)
 
-  abbrev to_right : List ℕ
-  to_right = c ∷ 32 ∷ (right ++ tail)
+returned_is : (at : Loc) (x y : Name) (op : BinOp) (loc : Loc)
+    → returned (s.Return at (e.Chain (e.Name x) ((op, loc, e.Name y) ∷ []) ∷ []) ∷ []) ≡ Some (record { left = x; op = op; at = loc; right = y })
+returned_is at x y op loc =
+    let value : Expr = e.Chain (e.Name x) ((op, loc, e.Name y) ∷ []) in
+    ap (λ l. option_and_then operation_in (value_by l)) (return_out at (value ∷ []))
+    ∙ ap operation_by (chain_out (e.Name x) ((op, loc, e.Name y) ∷ []))
+    ∙ ap (λ n. named n (name_in (e.Name y)) op loc) (name_found x)
+    ∙ ap (λ n. named (Some x) n op loc) (name_found y)
 
-  abbrev to_left : List ℕ
-  to_left = left ++ (codes " " ++ to_right)
+module _ (m : Module) (k : ShortKernel) (is : IsKernelOf m k) where
+  apart : bytes_eq k.second k.first ≡ false
+  apart =
+      let a = both (is_free_name k.name) _ is.names in
+      let b = both (is_free_name k.first) _ a.1 in
+      let c = both (is_free_name k.second) _ b.1 in
+      let d = both (not (bytes_eq k.first k.name)) _ c.1 in
+      let e = both (not (bytes_eq k.second k.name)) _ d.1 in
+      not_false (bytes_eq k.second k.first) e.1
 
-  abbrev to_second : List ℕ
-  to_second = second ++ (codes "):\n    return " ++ to_left)
+  abbrev first_name : Name
+  first_name = record { text = k.first; loc = is.places.first }
 
-  abbrev to_first : List ℕ
-  to_first = first ++ (codes ", " ++ to_second)
+  abbrev second_name : Name
+  second_name = record { text = k.second; loc = is.places.second }
 
-  first_is : from_first text ≡ to_first
-  first_is = ap (behind_word 1) (behind_at 19 name (codes "(int[], int[])\ndef " ++ (name ++ (codes "(" ++ to_first))) n refl)
-      ∙ behind_at 1 name (codes "(" ++ to_first) n refl
+  abbrev operation_is : Operation
+  operation_is = record {
+    left = record { text = parameter k k.left; loc = is.places.left };
+    op = k.op;
+    at = k.at;
+    right = record { text = parameter k k.right; loc = is.places.right };
+  }
 
-  second_is : from_second text ≡ to_second
-  second_is = ap (behind_word 2) first_is ∙ behind_at 2 first (codes ", " ++ to_second) f refl
+  only_candidate : candidate m ≡ Some k
+  only_candidate =
+      let f : Function = function_of k is.places in
+      ap (λ fs. option_and_then kernel_in (only fs)) is.functions
+      ∙ ap (kernel_with f f.params) (returned_is is.places.returns operation_is.left operation_is.right k.op k.at)
+      ∙ ap (λ l. numbered f first_name second_name operation_is l (number_in first_name second_name operation_is.right))
+      (number_is k is.places.first is.places.second is.places.left k.left apart is.left_number)
+      ∙ ap (λ r. numbered f first_name second_name operation_is (Some k.left) r)
+      (number_is k is.places.first is.places.second is.places.right k.right apart is.right_number)
 
-  left_is : from_left text ≡ to_left
-  left_is = ap (behind_word 14) second_is ∙ behind_at 14 second (codes "):\n    return " ++ to_left) s refl
+  is_whole_module : is_whole m k ≡ true
+  is_whole_module =
+      ap (λ xs. is_empty xs && (are_names k && (is_short k.op && is_exported_by (only m.notes) k))) is.imports
+      ∙ ap (λ t. t && (is_short k.op && is_exported_by (only m.notes) k)) is.names
+      ∙ ap (λ t. t && is_exported_by (only m.notes) k) is.operation
+      ∙ ap (λ ns. is_exported_by (only ns) k) is.notes
+      ∙ (bytes_eq-Decides is.note.text (export_text k)).1 is.export
 
-  operator_is : from_operator text ≡ to_right
-  operator_is = ap (behind_word 1) left_is ∙ behind_at 1 left (codes " " ++ to_right) l refl
+  pub form_is : form_of m ≡ Some k
+  form_is = ap (λ o. option_and_then (whole m) o) only_candidate ∙ ap (λ (t : Bool). if t then Some k else None) is_whole_module
 
-  name_word : word (from_name text) ≡ name
-  name_word = word_at name (codes "(int[], int[])\ndef " ++ (name ++ (codes "(" ++ to_first))) n refl
+-- ---- and what is found is its kernel
 
-  first_word : word (from_first text) ≡ first
-  first_word = ap word first_is ∙ word_at first (codes ", " ++ to_second) f refl
+exported_by : (ns : List Note) (k : ShortKernel) → is_exported_by (only ns) k ≡ true → (note : Note) × (ns ≡ note ∷ []) × (note.text ≡ export_text k)
+exported_by [] k h = cc
+exported_by (note ∷ []) k h = (note, refl, (bytes_eq-Decides note.text (export_text k)).0 h)
+exported_by (note ∷ other ∷ more) k h = cc
 
-  second_word : word (from_second text) ≡ second
-  second_word = ap word second_is ∙ word_at second (codes "):\n    return " ++ to_left) s refl
+empty_is : (xs : List Import) → is_empty xs ≡ true → xs ≡ []
+empty_is [] h = refl
+empty_is (x ∷ xs) h = cc
 
-  left_word : word (from_left text) ≡ left
-  left_word = ap word left_is ∙ word_at left (codes " " ++ to_right) l refl
-
-  operator_byte : slice_index (from_operator text) 0 ≡ c
-  operator_byte = ap (λ z. slice_index z 0) operator_is
-
-  right_word : word (drop 2 (from_operator text)) ≡ right
-  right_word = ap (λ z. word (drop 2 z)) operator_is ∙ word_at right tail r stop
-
-  candidate_at : candidate text ≡ kernel_of name first second left c right
-  candidate_at =
-      ap (λ z. kernel_of z (word (from_first text)) (word (from_second text)) (word (from_left text)) (slice_index (from_operator text) 0) (word (drop 2 (from_operator text)))) name_word
-      ∙ ap (λ z. kernel_of name z (word (from_second text)) (word (from_left text)) (slice_index (from_operator text) 0) (word (drop 2 (from_operator text)))) first_word
-      ∙ ap (λ z. kernel_of name first z (word (from_left text)) (slice_index (from_operator text) 0) (word (drop 2 (from_operator text)))) second_word
-      ∙ ap (λ z. kernel_of name first second z (slice_index (from_operator text) 0) (word (drop 2 (from_operator text)))) left_word
-      ∙ ap (λ z. kernel_of name first second left z (word (drop 2 (from_operator text)))) operator_byte
-      ∙ ap (λ z. kernel_of name first second left c z) right_word
-
--- the operator's byte
-abbrev byte_of : BinOp → ℕ
-byte_of b.Add = 43
-byte_of _ = 42
-
-sign_is : (op : BinOp) → is_short op ≡ true → sign op ≡ byte_of op ∷ []
-sign_is b.Add h = refl
-sign_is b.Mul h = refl
-sign_is _ h = cc
-
-operation_is : (op : BinOp) → is_short op ≡ true → operation_of (byte_of op) ≡ op
-operation_is b.Add h = refl
-operation_is b.Mul h = refl
-operation_is _ h = cc
-
-spelled : (k : ShortKernel) (tail : List ℕ) (mark : List ℕ) → sign k.op ≡ mark →
-    module_text k ++ tail ≡ pieces k.name k.first k.second (parameter k k.left) mark (parameter k k.right ++ tail)
-spelled k tail mark e = rw (sym e) (simp append_assoc refl)
-
-number_is : (k : ShortKernel) (n : ℕ) → bytes_eq k.second k.first ≡ false → n ≤ 1 → number_in k.first (parameter k n) ≡ n
-number_is k zero apart h = ap (λ (t : Bool). if t then 0 else 1) ((bytes_eq-Decides k.first k.first).1 refl)
-number_is k (suc zero) apart h = ap (λ (t : Bool). if t then 0 else 1) apart
-number_is k (suc (suc n)) apart h = absurd (omega arith)
-
-parameter_is_word : (k : ShortKernel) (n : ℕ) → list_all is_word k.first ≡ true → list_all is_word k.second ≡ true → list_all is_word (parameter k n) ≡ true
-parameter_is_word k n f s = by_test (n == 0)
+whole_some : (m : Module) (k l : ShortKernel) → whole m k ≡ Some l → (is_whole m k ≡ true) × (k ≡ l)
+whole_some m k l h = by_test (is_whole m k) refl h
   where
-    by_test : (t : Bool) → list_all is_word (if t then k.first else k.second) ≡ true
-    by_test true = f
-    by_test false = s
+    by_test : (t : Bool) → is_whole m k ≡ t → (if t then Some k else None) ≡ Some l → (is_whole m k ≡ true) × (k ≡ l)
+    by_test true is h = (is, some_same k l h)
+    by_test false is h = absurd (none_some l h)
 
-module _ (text : List ℕ) (k : ShortKernel) (m : IsModuleOf text k) where
-  names : (is_free_name k.name ≡ true) × (is_free_name k.first ≡ true) × (is_free_name k.second ≡ true) × (bytes_eq k.second k.first ≡ false)
-  names =
-      let a = both _ _ m.names in
-      let b = both _ _ a.1 in
-      let c = both _ _ b.1 in
-      let d = both _ _ c.1 in
-      let e = both _ _ d.1 in
-      (a.0, b.0, c.0, not_false _ e.1)
+pub form_some : (m : Module) (k : ShortKernel) → form_of m ≡ Some k → IsKernelOf m k
+form_some m k h =
+    let (l, is_candidate, is) = then_some (candidate m) (whole m) k h in
+    let (test, same) = whole_some m l k is in
+    let (f, is_only, is_kernel) = then_some (only m.functions) kernel_in l is_candidate in
+    let found : IsOf f l = kernel_some f l is_kernel in
+    let (imports, rest) = both (is_empty m.imports) _ test in
+    let (names, more) = both (are_names l) _ rest in
+    let (operation, export) = both (is_short l.op) _ more in
+    let (note, notes, text) = exported_by m.notes l export in
+    subst (IsKernelOf m) same (record {
+      imports = empty_is m.imports imports;
+      places = found.places;
+      functions = only_some m.functions f is_only ∙ ap (λ (g : Function). g ∷ []) found.is;
+      note = note;
+      notes = notes;
+      export = text;
+      names = names;
+      operation = operation;
+      left_number = found.left_number;
+      right_number = found.right_number;
+    })
 
-  left_number : number_in k.first (parameter k k.left) ≡ k.left
-  left_number = number_is k k.left (names.3) m.left_number
+pub form_none : (m : Module) → form_of m ≡ None → (k : ShortKernel) → IsKernelOf m k → ⊥
+form_none m h k is = none_some k (sym h ∙ form_is m k is)
 
-  right_number : number_in k.first (parameter k k.right) ≡ k.right
-  right_number = number_is k k.right (names.3) m.right_number
+one_kernel : (m : Module) (k l : ShortKernel) → IsKernelOf m k → IsKernelOf m l → k ≡ l
+one_kernel m k l is other = some_same k l (sym (form_is m k is) ∙ form_is m l other)
 
-  rebuilt : kernel_of k.name k.first k.second (parameter k k.left) (byte_of k.op) (parameter k k.right) ≡ k
-  rebuilt =
-      rw (operation_is k.op m.operation, left_number, right_number)
-      (ap (λ at. record k { at = at }) (sym m.place))
+-- ---- a module's bytes have one reading
 
-  with_tail : (tail : List ℕ) → stops tail ≡ true → candidate (module_text k ++ tail) ≡ k
-  with_tail tail stop =
-      ap candidate (spelled k tail (byte_of k.op ∷ []) (sign_is k.op m.operation))
-      ∙ candidate_at k.name k.first k.second (parameter k k.left) (parameter k k.right) tail (byte_of k.op)
-      (free_is_word k.name (names.0)) (free_is_word k.first (names.1)) (free_is_word k.second (names.2))
-      (parameter_is_word k k.left (free_is_word k.first (names.1)) (free_is_word k.second (names.2)))
-      (parameter_is_word k k.right (free_is_word k.first (names.1)) (free_is_word k.second (names.2))) stop
-      ∙ rebuilt
+ok_same : (x y : Tokens) → (let P : Result Tokens Loc = Ok x in P) ≡ Ok y → x ≡ y
+ok_same x y h = cc
 
-  pub only_candidate : candidate text ≡ k
-  only_candidate = by_end m.text_is
+err_same : (x y : Loc) → (let P : Result Tokens Loc = Err x in P) ≡ Err y → x ≡ y
+err_same x y h = cc
+
+ok_err : (x : Tokens) (y : Loc) → Ok x ≡ Err y → ⊥
+ok_err x y h = cc
+
+refusal_same : (q r : Refusal) → q.rule ≡ r.rule → q.loc ≡ r.loc → q ≡ r
+refusal_same q r a b =
+    let R : Rule → Loc → Refusal = λ x y. record { rule = x; loc = y } in
+    ap (λ (x : Rule). R x q.loc) a ∙ ap (R r.rule) b
+
+abbrev Reading : Type 0
+Reading = Result ShortKernel Refusal
+
+abbrev refuses : Refusal → Reading
+refuses r = Err r
+
+err_is : (q r : Refusal) → q ≡ r → refuses q ≡ refuses r
+err_is q r h = ap refuses h
+
+-- where the lexer refuses
+pub not_lexed : (file : List ℕ) (r : Refusal) → IsNotLexed file r → IsOneReading file (Err r)
+not_lexed file r is = record { reading = inl is; alone = alone }
+  where
+    no_tokens : (ts : Tokens) → lexed.IsLexed file ts → ⊥
+    no_tokens ts l = ok_err ts r.loc (sym l.is_list ∙ is.1)
+
+    alone : (other : Reading) → IsReading file other → other ≡ Err r
+    alone (Ok k) has = absurd (no_tokens has.tree.tokens has.tree.lexed)
+    alone (Err q) (inl h) = err_is q r (refusal_same q r (h.0 ∙ sym (is.0)) (err_same q.loc r.loc (sym (h.1) ∙ is.1)))
+    alone (Err q) (inr (inl h)) = absurd (no_tokens h.tokens h.lexed)
+    alone (Err q) (inr (inr h)) = absurd (no_tokens h.tree.tokens h.tree.lexed)
+
+-- where it gives tokens
+module _ (file : List ℕ) (ts : Tokens) (is : lexed.IsLexed file ts) where
+  same_tokens : (us : Tokens) → lexed.IsLexed file us → us ≡ ts
+  same_tokens us l = ok_same us ts (sym l.is_list ∙ is.is_list)
+
+  not_refused : (q : Refusal) → IsNotLexed file q → ⊥
+  not_refused q h = ok_err ts q.loc (sym is.is_list ∙ h.1)
+
+  tree_at : (n : Module) → HasTree file n → parsed.IsTree file ts n
+  tree_at n has = let P : Tokens → Type 0 = λ us. parsed.IsTree file us n in subst P (same_tokens has.tokens has.lexed) has.tree
+
+  refused_at : (q : Refusal) → IsNotParsed file q → parsed.IsRefusal file ts (stop.Refused q)
+  refused_at q h = let P : Tokens → Type 0 = λ us. parsed.IsRefusal file us (stop.Refused q) in subst P (same_tokens h.tokens h.lexed) h.refused
+
+  -- where the parser refuses them
+  not_parsed : (r : Refusal) → parsed.IsRefusal file ts (stop.Refused r)
+      → ((n : Module) → parsed.IsTree file ts n → parsed.IsOnly n (Err (stop.Refused r)))
+      → ((q : Refusal) → parsed.IsRefusal file ts (stop.Refused q) → parsed.IsOnlyRefusal q (Err (stop.Refused r)))
+      → IsOneReading file (Err r)
+  not_parsed r refused no_tree place = record { reading = inr (inl (record { tokens = ts; lexed = is; refused = refused })); alone = alone }
     where
-      by_end : IsTextOf text k → candidate text ≡ k
-      by_end (inl e) = ap candidate (e ∙ sym (append-nil (module_text k))) ∙ with_tail [] refl
-      by_end (inr e) = ap candidate e ∙ with_tail (10 ∷ []) refl
+      alone : (other : Reading) → IsReading file other → other ≡ Err r
+      alone (Ok k) has = absurd (no_tree has.module (tree_at has.module has.tree))
+      alone (Err q) (inl h) = absurd (not_refused q h)
+      alone (Err q) (inr (inl h)) = err_is q r (sym (place q (refused_at q h)))
+      alone (Err q) (inr (inr h)) = absurd (no_tree h.module (tree_at h.module h.tree))
 
--- what is tested of a candidate is all that makes it the text's kernel
-pub candidate_holds : (text : List ℕ) → are_names (candidate text) ≡ true → IsTextOf text (candidate text) → IsModuleOf text (candidate text)
-candidate_holds text names text_is = record {
-  text_is = text_is;
-  names = names;
-  operation = short (slice_index (from_operator text) 0 == 43);
-  left_number = one (bytes_eq (word (from_left text)) (word (from_first text)));
-  right_number = one (bytes_eq (word (drop 2 (from_operator text))) (word (from_first text)));
-  place = refl;
-}
-  where
-    short : (t : Bool) → is_short (if t then b.Add else b.Mul) ≡ true
-    short true = refl
-    short false = refl
+  pub not_parsed_at : (s : Stop) (r : Refusal) → s ≡ stop.Refused r → parsed.IsRefusal file ts s
+      → ((n : Module) → parsed.IsTree file ts n → parsed.IsOnly n (Err s))
+      → ((q : Refusal) → parsed.IsRefusal file ts (stop.Refused q) → parsed.IsOnlyRefusal q (Err s))
+      → IsOneReading file (Err r)
+  not_parsed_at s r is refused no_tree place =
+      not_parsed r (subst (λ (x : Stop). parsed.IsRefusal file ts x) is refused)
+      (λ n t. subst (λ (x : Stop). parsed.IsOnly n (Err x)) is (no_tree n t))
+      (λ q h. subst (λ (x : Stop). parsed.IsOnlyRefusal q (Err x)) is (place q h))
 
-    one : (t : Bool) → (if t then 0 else 1) ≤ 1
-    one true = omega arith
-    one false = omega arith
+  -- where it gives a tree
+  module _ (m : Module) (tree : parsed.IsTree file ts m) (one_tree : (n : Module) → parsed.IsTree file ts n → parsed.IsOnly n (Ok m))
+      (no_refusal : (q : Refusal) → parsed.IsRefusal file ts (stop.Refused q) → parsed.IsOnlyRefusal q (Ok m)) where
+    has_tree : HasTree file m
+    has_tree = record { tokens = ts; lexed = is; tree = tree }
 
--- the answers of the reader, over its candidate
-pub sound : (text : List ℕ) (kernel : ShortKernel) → kernel ≡ candidate text → (are_names kernel ≡ true) × IsTextOf text kernel → IsModuleOf text kernel
-sound text kernel e h =
-    let P : ShortKernel → Type 0 = λ k. (are_names k ≡ true) × IsTextOf text k → IsModuleOf text k in
-    subst P (sym e) (λ t. candidate_holds text (t.0) (t.1)) h
+    kernel_at : (n : Module) (k : ShortKernel) → HasTree file n → IsKernelOf n k → IsKernelOf m k
+    kernel_at n k has kernel = let P : Module → Type 0 = λ x. IsKernelOf x k in subst P (sym (one_tree n (tree_at n has))) kernel
 
-pub missed : (text : List ℕ) (kernel : ShortKernel) (b : Bool) → kernel ≡ candidate text → ((are_names kernel ≡ true) × IsTextOf text kernel → IsTrue b) → b ≡ false
-    → (k : ShortKernel) → IsModuleOf text k → ⊥
-missed text kernel b e tested no_test k m =
-    let same : k ≡ kernel = sym (e ∙ only_candidate text k m) in
-    let P : ShortKernel → Type 0 = λ x. (are_names x ≡ true) × IsTextOf text x in
-    let t : b ≡ true = tested (subst P same (m.names, m.text_is)) in
-    cc
+    pub short : (k : ShortKernel) → form_of m ≡ Some k → IsOneReading file (Ok k)
+    short k h = record { reading = record { «module» = m; tree = has_tree; kernel = form_some m k h }; alone = alone }
+      where
+        alone : (other : Reading) → IsReading file other → other ≡ Ok k
+        alone (Ok l) has = ap (λ (x : ShortKernel). Ok x) (one_kernel m l k (kernel_at has.module l has.tree has.kernel) (form_some m k h))
+        alone (Err q) (inl x) = absurd (not_refused q x)
+        alone (Err q) (inr (inl x)) = absurd (no_refusal q (refused_at q x))
+        alone (Err q) (inr (inr x)) =
+            let P : Module → Type 0 = λ n. IsKernelOf n k in
+            absurd (x.none k (subst P (one_tree x.module (tree_at x.module x.tree)) (form_some m k h)))
 
--- a text is the module of one kernel at the most
-pub one_kernel : (text : List ℕ) (k l : ShortKernel) → IsModuleOf text k → IsModuleOf text l → k ≡ l
-one_kernel text k l m n = sym (only_candidate text k m) ∙ only_candidate text l n
-
-pub one_reading : (text : List ℕ) (found other : Option ShortKernel) → IsReading text found → IsReading text other → found ≡ other
-one_reading file (Some k) (Some l) m n = ap (λ (x : ShortKernel). Some x) (one_kernel file k l m n)
-one_reading text (Some k) None m n = absurd (n k m)
-one_reading text None (Some l) m n = absurd (m l n)
-one_reading text None None m n = refl
+    pub not_short : form_of m ≡ None → IsOneReading file (Err no_module)
+    not_short h = record { reading = inr (inr (record { «module» = m; tree = has_tree; none = form_none m h; is = refl })); alone = alone }
+      where
+        alone : (other : Reading) → IsReading file other → other ≡ Err no_module
+        alone (Ok l) has = absurd (form_none m h l (kernel_at has.module l has.tree has.kernel))
+        alone (Err q) (inl x) = absurd (not_refused q x)
+        alone (Err q) (inr (inl x)) = absurd (no_refusal q (refused_at q x))
+        alone (Err q) (inr (inr x)) = err_is q no_module x.is

@@ -1,8 +1,8 @@
 -- Rows: arrays of rank 1, and the element operation on two of them.
 use Rattle.std.proofs.lemmas.Int.{clamps}
-use Rattle.std.proofs.Common.{◌≡◌, ℕ, zero, suc, ◌+◌, ◌-◌, ◌*◌, ◌<◌, ◌≤◌, ◌==◌, Bool, true, false, List, [], ◌∷◌, ◌++◌, map, length, take, drop, replicate, slice_index, slice_index_or, slice_set, Option, Some, None, Result, Ok, Err, ℤ, pos, refl, sym, ◌∙◌, ap, subst, arith, if◌then◌else◌, get_or, cond, not, ◌&&◌, eqb-true}
+use Rattle.std.proofs.Common.{◌≡◌, ℕ, zero, suc, ◌+◌, ◌-◌, ◌*◌, ◌<◌, ◌≤◌, ◌==◌, Bool, true, false, List, [], ◌∷◌, ◌++◌, map, length, take, drop, replicate, slice_index, slice_index_or, slice_set, None, Result, Ok, Err, ℤ, pos, refl, sym, ◌∙◌, ap, subst, arith, if◌then◌else◌, cond, not, ◌&&◌, eqb-true}
 use Rattle.std.proofs.lemmas.List as lists
-use Rattle.std.proofs.lemmas.List.FromFn.{length-range_with_len, map-range_with_len_more, get_or-map-range_with_len, length-map-range_with_len}
+use Rattle.std.proofs.lemmas.List.FromFn.{length-range_with_len, map-range_with_len_more, length-map-range_with_len}
 use Rattle.std.proofs.Math.Seq.{take-append_seam, get_or-append_seam}
 use Rattle.std.proofs.Math.ListN.{get_or-append}
 use Rattle.std.specs.List.{flat_map, zip, range_with_len}
@@ -11,12 +11,11 @@ use Rattle.krn_base.specs.declared.fault.Fault.{Fault}
 use Rattle.krn_base.specs.declared.fault.Fault.TheVariants.{ValueError, SizeLimit}
 use Rattle.krn_base.specs.declared.kind.Kind.TheVariants.{Int64}
 use Rattle.krn_base.specs.declared.operation.BinOp.{BinOp}
-use Rattle.krn_base.specs.declared.place.Loc.{Loc}
 use Rattle.view_places.specs.Arrays.{Inside, all_same, is_small, broadcast_of, clipped, element_count, indices, spread, entry}
 use Rattle.view_places.specs.declared.shape.Array.{Array}
 use Rattle.view_places.specs.declared.shape.Shape.{Shape}
-use Rattle.eager_rules.specs.State.{State, Bound, Unbound, WordOf, ArrayOf, words_of, elements_at, bound_of}
-use Rattle.eager_rules.specs.Eager.{End, GoesOn, operand, extents_of, spread_to, elements_of, with_new, mapped, statement, then_do, block, started, shape_of, value_of, finished, outcome_of}
+use Rattle.eager_rules.specs.State.{State, Bound, Unbound, ArrayOf, words_of, elements_at}
+use Rattle.eager_rules.specs.Eager.{End, GoesOn, operand, extents_of, spread_to, elements_of, with_new, mapped, then_do, block, started, shape_of, value_of, finished, outcome_of}
 use Rattle.eager_rules.specs.declared.outcome.Outcome.{Outcome}
 use Rattle.eager_rules.specs.declared.outcome.Value.{Value}
 use Rattle.eager_rules.specs.declared.outcome.Value.TheVariants as values
@@ -24,7 +23,7 @@ use Rattle.eager_rules.specs.declared.program.Core.TheVariants as core
 use Rattle.eager_rules.specs.declared.program.MapOp.TheVariants.{Bin}
 use Rattle.eager_rules.specs.declared.program.Oper.TheVariants.{Name}
 use Rattle.pythran_main.specs.Kernel.{instance_of}
-use Rattle.pythran_main.specs.Rows.{IsRow, IsRowPair, repeated, element_of_rows}
+use Rattle.pythran_main.specs.Rows.{IsRowPair, repeated, element_of_rows}
 use Rattle.pythran_main.specs.declared.kernel.ShortKernel.{ShortKernel}
 
 -- the rank of a row is 1

@@ -1,22 +1,20 @@
 -- The promises by status follow from how a command ended.
-use Rattle.std.proofs.Common.{codes, ◌≡◌, ℕ, ◌+◌, ◌<◌, ◌≤◌, ◌⊎◌, inl, inr, Bool, true, false, List, length, take, Option, Some, None, Result, Ok, Err, refl, sym, ◌∙◌, ap, subst, arith}
+use Rattle.std.proofs.Common.{codes, ◌≡◌, ℕ, ◌+◌, ◌<◌, ◌≤◌, ◌⊎◌, inl, inr, true, false, List, [], ◌∷◌, IfOk, length, take, Option, Some, None, Result, Ok, Err, refl, sym, ◌∙◌, subst, arith}
 use Rattle.host_io.specs.Counts.{Rose}
 use Rattle.host_io.specs.Files.{Held, Bytes, IsContent, IsCutContent}
-use Rattle.call_items.specs.Binding.{BoundMeaning}
+use Rattle.call_items.specs.Binding.{BoundMeaning, bind}
 use Rattle.krn_base.specs.declared.refusal.Refusal.{Refusal}
-use Rattle.pythran_main.specs.Answer.{Answers, module_answer, run_answer, IsReading}
+use Rattle.pythran_main.specs.Answer.{Answers, IsOneAnswer, head_of, module_answer, run_answer}
 use Rattle.pythran_main.specs.Delivered.{Delivers, Told}
-use Rattle.pythran_main.specs.Ending.{World, Written, IsUntouched, Gained, Broke, Loaded, IsTooLong, IsUnheard, Serves, Declines, EndsBy, Ends, status_of, module_limit, refused_text, item_text}
-use Rattle.pythran_main.specs.Prepared.{Prepares}
+use Rattle.pythran_main.specs.Ending.{World, IsUntouched, Gained, Loaded, IsTooLong, Serves, Declines, EndsBy, Ends, status_of, module_limit}
+use Rattle.pythran_main.specs.Reading.{IsOneReading}
 use Rattle.pythran_main.specs.Request.{Asked, request}
-use Rattle.pythran_main.specs.Theorem.{status_at, IsDone, IsRefused, IsItemRefused, IsLong, IsLoadFailed, IsWriteFailed, IsFailed, NoneRose, Comes}
+use Rattle.pythran_main.specs.Theorem.{IsDone, IsRefused, IsItemRefused, IsLong, IsFailed, NoneRose, Comes}
 use Rattle.pythran_main.specs.declared.answer.Answer.{Answer}
 use Rattle.pythran_main.specs.declared.answer.Answer.TheVariants as answer
 use Rattle.pythran_main.specs.declared.ending.Ending.{Ending}
 use Rattle.pythran_main.specs.declared.ending.Ending.TheVariants.{Reported, NoRequest, Refused, RefusedItem, LoadFailed, WriteFailed, Unheard, NoMemory, TooLong}
 use Rattle.pythran_main.specs.declared.kernel.ShortKernel.{ShortKernel}
-use Rattle.pythran_main.specs.declared.load.Prepared.TheVariants as ready
-use Rattle.pythran_main.proofs.Modules.{one_reading}
 
 -- what was delivered of an answer that the loaded module gives is how the request ends
 pub delivered : (asked : Asked) (w : World) (a : Answer) (e : Ending) → Loaded asked w.held a → Delivers a w.out w.err e → Serves asked w e
@@ -55,19 +53,30 @@ declined words w e text none still (inr (is, broke)) then =
 pub served : (words : List (List ℕ)) (asked : Asked) (w : World) (e : Ending) → request words ≡ Some asked → Serves asked w e → Ends words w e
 served words asked w e asks s = let P : Option Asked → Type 0 = λ x. EndsBy x w e in record { is = subst P (sym asks) s }
 
--- a module's text and a request come to one answer
-module_answers : (found : Option ShortKernel) (asked : Asked) (a b : Answer) → module_answer found asked a → module_answer found asked b → a ≡ b
-module_answers None asked a b m n = m ∙ sym n
-module_answers (Some k) asked a b m n = run_answers k _ a b m n
+-- a reading that is alone makes its answer alone
+module_answers : (found : Result ShortKernel Refusal) (asked : Asked) (a b : Answer) → module_answer found asked a → module_answer found asked b → a ≡ b
+module_answers (Err r) asked a b m n = m ∙ sym n
+module_answers (Ok k) asked a b m n = run_answers k _ a b m n
   where
     run_answers : (k : ShortKernel) (r : Result BoundMeaning ℕ) (a b : Answer) → run_answer k r a → run_answer k r b → a ≡ b
     run_answers k (Err x) a b m n = m ∙ sym n
     run_answers k (Ok x) a b m n = m ∙ sym n
 
-pub one_answer : (file : List ℕ) (asked : Asked) (a b : Answer) → Answers file asked a → Answers file asked b → a ≡ b
-one_answer file asked a b m n =
-    let P : Option ShortKernel → Type 0 = λ found. module_answer found asked b in
-    module_answers m.found asked a b m.answer (subst P (one_reading file n.found m.found n.reading m.reading) n.answer)
+pub one_answer : (file : List ℕ) (asked : Asked) (found : Result ShortKernel Refusal) (a : Answer) → IsOneReading file found → module_answer found asked a → IsOneAnswer file asked a
+one_answer file asked found a one m = record {
+  answers = record { found = found; reading = one.reading; answer = m };
+  alone = λ b n.
+      let P : Result ShortKernel Refusal → Type 0 = λ found. module_answer found asked b in
+      module_answers found asked b a (subst P (one.alone n.found n.reading) n.answer) m;
+}
+
+pub ran : {E : Type 0} (file : List ℕ) (asked : Asked) (k : ShortKernel) (result : Result Answer E) → IsOneReading file (Ok k)
+    → IfOk result (run_answer k (bind (head_of k ∷ []) asked.kernel asked.items)) → IfOk result (IsOneAnswer file asked)
+ran file asked k (Ok a) one m = one_answer file asked (Ok k) a one m
+ran file asked k (Err x) one m = tt
+
+pub refused_alone : (file : List ℕ) (asked : Asked) (r : Refusal) → IsOneReading file (Err r) → IsOneAnswer file asked (answer.Refused r)
+refused_alone file asked r one = one_answer file asked (Err r) (answer.Refused r) one refl
 
 module _ (words : List (List ℕ)) (w : World) where
   -- what a command's words ask for, if its ending says so
@@ -206,8 +215,9 @@ module _ (words : List (List ℕ)) (w : World) where
 
     one_loaded : (a b : Answer) → Answers file asked a → Loaded asked w.held b → b ≡ a
     one_loaded a b answers l =
-        let P : List ℕ → Type 0 = λ z. Answers z asked b in
-        one_answer file asked b a (subst P (same_file l.file l.content) l.answers) answers
+        let P : List ℕ → Type 0 = λ z. IsOneAnswer z asked b in
+        let one : IsOneAnswer file asked b = subst P (same_file l.file l.content) l.answer in
+        sym (one.alone a answers)
 
     asked_serves : (e : Ending) → Ends words w e → Serves asked w e
     asked_serves e ends = let P : Option Asked → Type 0 = λ x. EndsBy x w e in subst P asks ends.is

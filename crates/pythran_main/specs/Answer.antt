@@ -1,10 +1,9 @@
 -- What a call of a module's kernel comes to: a refusal of the module, the number of a refused item, or a report.
-use Rattle.std.specs.Prelude.{◌≡◌, ℕ, Bool, true, false, if◌then◌else◌, List, [], ◌∷◌, map, is_some, Option, Some, None, Result, Ok, Err}
+use Rattle.std.specs.Prelude.{◌≡◌, ℕ, if◌then◌else◌, List, [], ◌∷◌, map, is_some, Some, Result, Ok, Err}
 use Rattle.std.specs.List.{zip}
 use Rattle.krn_base.specs.declared.kind.Kind.TheVariants.{Int64}
 use Rattle.krn_base.specs.declared.kind.ParamType.TheVariants.{Flat}
 use Rattle.krn_base.specs.declared.refusal.Refusal.{Refusal}
-use Rattle.krn_base.specs.declared.refusal.Rule.TheVariants.{Profile}
 use Rattle.view_places.specs.declared.shape.Array.{Array}
 use Rattle.eager_rules.specs.Eager.{outcome_of}
 use Rattle.eager_rules.specs.declared.outcome.Counts.{Counts}
@@ -14,7 +13,7 @@ use Rattle.call_items.specs.declared.head.KernelHead.{KernelHead}
 use Rattle.call_report.specs.Report.{report_of}
 use Rattle.call_report.specs.declared.head.BufferHead.{BufferHead}
 use Rattle.pythran_main.specs.Kernel.{instance_of}
-use Rattle.pythran_main.specs.Module.{IsModuleOf}
+use Rattle.pythran_main.specs.Reading.{IsReading}
 use Rattle.pythran_main.specs.Request.{Asked}
 use Rattle.pythran_main.specs.declared.answer.Answer.{Answer}
 use Rattle.pythran_main.specs.declared.answer.Answer.TheVariants.{Refused, RefusedItem, Ran}
@@ -43,26 +42,22 @@ outcome_at k b = outcome_of (instance_of k) b.arrays b.args
 abbrev pub report_at : List (List ℕ) → List Array → Outcome → List ℕ
 report_at names arrays outcome = report_of (buffer_heads names arrays) outcome (Some (counts_of outcome))
 
--- a text is the module of this kernel, or of none
-abbrev pub IsReading : List ℕ → Option ShortKernel → Type 0
-IsReading file (Some k) = IsModuleOf file k
-IsReading file None = (k : ShortKernel) → IsModuleOf file k → ⊥
-
--- the refusal of a text that is no module of the form
-abbrev pub no_module : Refusal
-no_module = record { rule = Profile; loc = record { line = 1; col = 1 } }
-
 abbrev pub run_answer : ShortKernel → Result BoundMeaning ℕ → Answer → Type 0
 run_answer k (Err n) a = a ≡ RefusedItem n
 run_answer k (Ok b) a =
     a ≡ Ran (report_at b.names b.arrays (outcome_at k b)) (is_some (outcome_at k b).fault)
 
-abbrev pub module_answer : Option ShortKernel → Asked → Answer → Type 0
-module_answer None asked a = a ≡ Refused no_module
-module_answer (Some k) asked a = run_answer k (bind (head_of k ∷ []) asked.kernel asked.items) a
+abbrev pub module_answer : Result ShortKernel Refusal → Asked → Answer → Type 0
+module_answer (Err r) asked a = a ≡ Refused r
+module_answer (Ok k) asked a = run_answer k (bind (head_of k ∷ []) asked.kernel asked.items) a
 
 -- what a module's text and a request come to
 pub record Answers (file : List ℕ) (asked : Asked) (a : Answer) : Type 0 where
-  pub found : Option ShortKernel
+  pub found : Result ShortKernel Refusal
   pub reading : IsReading file found
   pub answer : module_answer found asked a
+
+-- They come to this answer, and to no other.
+pub record IsOneAnswer (file : List ℕ) (asked : Asked) (a : Answer) : Type 0 where
+  pub answers : Answers file asked a
+  pub alone : (other : Answer) → Answers file asked other → other ≡ a

@@ -6,7 +6,7 @@ use Rattle.host_io.specs.Files.{Held, IsContent, IsCutContent}
 use Rattle.host_io.specs.Sink.{appended}
 use Rattle.krn_base.specs.Rule.{rule_name}
 use Rattle.krn_base.specs.declared.refusal.Refusal.{Refusal}
-use Rattle.pythran_main.specs.Answer.{Answers}
+use Rattle.pythran_main.specs.Answer.{IsOneAnswer}
 use Rattle.pythran_main.specs.Request.{Asked, request}
 use Rattle.pythran_main.specs.declared.answer.Answer.{Answer}
 use Rattle.pythran_main.specs.declared.answer.Answer.TheVariants as answer
@@ -63,12 +63,12 @@ pub record World : Type 0 where
   pub out : Written
   pub err : Written
 
--- the requested module's file was loaded within its limit, and with it the request comes to this answer
+-- the requested module's file was loaded within its limit, and with it the request comes to this answer alone
 pub record Loaded (asked : Asked) (held : List ℕ → Held) (a : Answer) : Type 0 where
   pub file : List ℕ
   pub content : IsContent (held asked.module_path) file
   pub within : length file ≤ module_limit
-  pub answers : Answers file asked a
+  pub answer : IsOneAnswer file asked a
 
 -- a file is longer than a module may be
 pub record IsTooLong (file : Held) : Type 0 where

@@ -12,7 +12,7 @@ use Rattle.pythran_main.specs.declared.kernel.ShortKernel.{ShortKernel}
 abbrev pub instance_of : ShortKernel → Instance
 instance_of k = record {
   name = k.name;
-  weight = 16;
+  weight = k.weight;
   params = (k.first, Flat Int64 1) ∷ (k.second, Flat Int64 1) ∷ [];
   rets = (Int64, 1) ∷ [];
   names = (Int64, 1) ∷ (Int64, 1) ∷ (Int64, 1) ∷ [];

@@ -1,11 +1,13 @@
 pub mod Answer
 pub mod Delivered
 pub mod Ending
+pub mod Form
 pub mod Kernel
 pub mod Module
+pub mod Operands
 pub mod Prepared
+pub mod Reading
 pub mod Request
 pub mod Rows
 pub mod Theorem
-pub mod Words
 pub mod World

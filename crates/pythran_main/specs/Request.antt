@@ -1,5 +1,5 @@
 -- What the words of a command ask for (this project).
-use Rattle.std.specs.Prelude.{ℕ, ◌==◌, Bool, true, false, ◌&&◌, nat_lt, if◌then◌else◌, List, [], ◌∷◌, map, length, slice_index, codes, Option, Some, None, string_bytes, String}
+use Rattle.std.specs.Prelude.{ℕ, ◌==◌, Bool, ◌&&◌, nat_lt, if◌then◌else◌, List, ◌∷◌, map, length, slice_index, codes, Option, Some, None, string_bytes, String}
 use Rattle.std.specs.List.{list_any}
 use Rattle.std.specs.Str.{bytes_eq}
 use Rattle.std.specs.declared.alloc.Global.{Global}

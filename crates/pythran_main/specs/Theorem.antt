@@ -1,11 +1,9 @@
 -- What the command promises, by its exit status.
-use Rattle.std.specs.Prelude.{◌≡◌, ℕ, ◌+◌, ◌<◌, ◌≤◌, ◌⊎◌, Bool, if◌then◌else◌, List, codes, take, length, Option, Some, None}
+use Rattle.std.specs.Prelude.{◌≡◌, ℕ, ◌⊎◌, Bool, if◌then◌else◌, List, codes, Some}
 use Rattle.host_io.specs.Counts.{Rose}
-use Rattle.host_io.specs.Files.{Held, IsContent}
-use Rattle.host_io.specs.Sink.{appended}
+use Rattle.host_io.specs.Files.{Held}
 use Rattle.krn_base.specs.declared.refusal.Refusal.{Refusal}
-use Rattle.pythran_main.specs.Answer.{Answers}
-use Rattle.pythran_main.specs.Ending.{Written, IsUntouched, Gained, Broke, Loaded, IsTooLong, IsUnheard, refused_text, item_text, module_limit}
+use Rattle.pythran_main.specs.Ending.{Written, IsUntouched, Gained, Broke, Loaded, IsTooLong, IsUnheard, refused_text, item_text}
 use Rattle.pythran_main.specs.Request.{Asked, request}
 use Rattle.pythran_main.specs.declared.answer.Answer.{Answer}
 use Rattle.pythran_main.specs.declared.answer.Answer.TheVariants as answer

@@ -3,7 +3,7 @@ ghost use Rattle.std.specs.List.{zip};
 ghost use Rattle.call_items.specs.Binding.{bind, meaning as bound_meaning};
 ghost use Rattle.eager_rules.specs.Eager.{outcome_of};
 ghost use Rattle.eager_rules.specs.State.{bound_to};
-ghost use Rattle.pythran_main.specs.Answer.{Answers};
+ghost use Rattle.pythran_main.specs.Answer.{IsOneAnswer};
 ghost use Rattle.pythran_main.specs.Answer as spec;
 ghost use Rattle.pythran_main.specs.Kernel.{instance_of};
 ghost use Rattle.pythran_main.specs.Request.{meaning};
@@ -16,7 +16,7 @@ use crate::request::Request;
 use call_items::{BoundCall, KernelHead, bind};
 use call_report::{BufferHead, report};
 use eager_rules::{Call, Counts, Outcome};
-use krn_base::{Kind, Loc, NoMemory, ParamType, Refusal, Rule, Seq, Text};
+use krn_base::{Kind, NoMemory, ParamType, Refusal, Seq, Text};
 use std::alloc::{AllocError, Global};
 use view_places::Array;
 
@@ -29,16 +29,6 @@ pub enum Answer {
     RefusedItem(u32),
     /// The kernel ran: the report, and whether it has a fault.
     Ran(Seq<u8>, bool),
-}
-
-/// The refusal of a text that is no module of the form.
-fn no_module() -> Refusal
-    ensures { result ≡ spec.no_module }
-{
-    Refusal {
-        rule: Rule::Profile,
-        loc: Loc { line: 1, col: 1 },
-    }
 }
 
 /// The kernel's name and parameters.
@@ -131,10 +121,10 @@ fn answer_kernel(
 pub fn answer_request(alloc: Global, file: &[u8], request: &Request<'_>) -> Result<Answer, NoMemory>
     requires file { length file.now ≤ 2 ^ 31 }
     requires items { length request.now.items.now < 2 ^ 31 }
-    ensures { IfOk result (Answers file.now (meaning request.now)) }
+    ensures { IfOk result (IsOneAnswer file.now (meaning request.now)) }
 {
     match read_module(alloc, file)? {
-        None => Ok(Answer::Refused(no_module())),
-        Some(kernel) => answer_kernel(alloc, &kernel, request),
+        Ok(kernel) => answer_kernel(alloc, &kernel, request),
+        Err(refusal) => Ok(Answer::Refused(refusal)),
     }
 }

@@ -14,4 +14,6 @@ pub struct ShortKernel {
     pub right: u32,
     /// The place of the operator.
     pub at: Loc,
+    /// How many tokens its function has.
+    pub weight: u32,
 }

@@ -1,7 +1,7 @@
 ghost use Rattle.std.specs.Prelude.{◌≡◌, ℕ, ◌+◌, ◌<◌, ◌≤◌, ◌^◌, List, length, IfOk, IsErrOf};
 ghost use Rattle.host_io.specs.Counts.{Rose};
 ghost use Rattle.host_io.specs.Files.{Held, IsContent};
-ghost use Rattle.pythran_main.specs.Answer.{Answers};
+ghost use Rattle.pythran_main.specs.Answer.{IsOneAnswer};
 ghost use Rattle.pythran_main.specs.Ending.{module_limit, IsTooLong};
 ghost use Rattle.pythran_main.specs.Prepared.{Answered, Prepares};
 ghost use Rattle.pythran_main.specs.Request.{meaning};

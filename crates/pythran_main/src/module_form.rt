@@ -1,65 +1,196 @@
-ghost use Rattle.std.specs.Prelude.{◌≡◌, ◌+◌, ◌^◌, ◌<◌, ◌≤◌, ◌↔◌, [], ◌∷◌, ◌++◌, true, length, slice_index, take, drop, map, codes, IfOk, IsTrue, OnOk};
-ghost use Rattle.std.specs.Char.{is_ascii_digit};
-ghost use Rattle.std.specs.List.{list_any, list_all};
+ghost use Rattle.std.specs.Prelude.{◌≡◌, ◌^◌, ◌≤◌, [], ◌++◌, length, map, IfOk, option_map};
+ghost use Rattle.std.specs.List.{list_any};
 ghost use Rattle.std.specs.Str.{bytes_eq};
-ghost use Rattle.pythran_main.specs.Answer.{IsReading};
-ghost use Rattle.pythran_main.specs.Words.{WordsOf};
+ghost use Rattle.py_lex.specs.Lexed.{IsLexed};
+ghost use Rattle.pythran_main.specs.Form as form;
 ghost use Rattle.pythran_main.specs.Module as spec;
+ghost use Rattle.pythran_main.specs.Operands.{seen};
+ghost use Rattle.pythran_main.specs.Reading as reading;
 
 use crate::kernel::ShortKernel;
-use krn_base::{BinOp, Loc, Seq, Text};
+use krn_base::{BinOp, Loc, NoMemory, Refusal, Rule, Stop};
+use py_lex::{Tokens, tokens};
+use py_parse::{Expr, Function, Import, Module, Name, Note, Stmt, parse};
 use std::alloc::{AllocError, Global};
 
-/// Python's keywords, and the built-in functions that kernels may call.
-const RESERVED: [&[u8]; 42] = [
-    b"False",
-    b"None",
-    b"True",
-    b"and",
-    b"as",
-    b"assert",
-    b"async",
-    b"await",
-    b"break",
-    b"class",
-    b"continue",
-    b"def",
-    b"del",
-    b"elif",
-    b"else",
-    b"except",
-    b"finally",
-    b"for",
-    b"from",
-    b"global",
-    b"if",
-    b"import",
-    b"in",
-    b"is",
-    b"lambda",
-    b"nonlocal",
-    b"not",
-    b"or",
-    b"pass",
-    b"raise",
-    b"return",
-    b"try",
-    b"while",
-    b"with",
-    b"yield",
-    b"len",
-    b"abs",
-    b"min",
-    b"max",
-    b"int",
-    b"bool",
-    b"range",
-];
+/// The built-in functions that kernels may call.
+const BUILT_IN: [&[u8]; 7] = [b"len", b"abs", b"min", b"max", b"int", b"bool", b"range"];
 
-fn is_word(byte: u8) -> bool
-    ensures { result ≡ spec.is_word byte }
+/// An operation on two names.
+#[derive(Clone, Copy)]
+struct Operation<'a> {
+    left: &'a Name,
+    op: BinOp,
+    at: Loc,
+    right: &'a Name,
+}
+
+/// The one element of a slice.
+fn only<T>(items: &[T]) -> Option<&T>
+    ensures { option_map (λ x. x.now) result ≡ form.only items.now }
 {
-    byte.is_ascii_alphanumeric() || byte == b'_'
+    match items {
+        [item] => Some(item),
+        _ => None,
+    }
+}
+
+fn name_in(x: &Expr) -> Option<&Name>
+    ensures { option_map (λ name. name.now) result ≡ form.name_in x.now }
+{
+    match x {
+        Expr::Name(name) => Some(name),
+        _ => None,
+    }
+}
+
+fn named<'a>(
+    left: Option<&'a Name>,
+    right: Option<&'a Name>,
+    op: BinOp,
+    at: Loc,
+) -> Option<Operation<'a>>
+    ensures { option_map seen result ≡ form.named (option_map (λ name. name.now) left.entry) (option_map (λ name. name.now) right.entry) op at }
+{
+    match (left, right) {
+        (Some(left), Some(right)) => Some(Operation {
+            left,
+            op,
+            at,
+            right,
+        }),
+        _ => None,
+    }
+}
+
+/// The operation of this operand and what is linked to it.
+fn with_link<'a>(first: &'a Expr, link: &'a (BinOp, Loc, Expr)) -> Option<Operation<'a>>
+    ensures { option_map seen result ≡ form.with_link first.now link.now }
+{
+    named(name_in(first), name_in(&link.2), link.0, link.1)
+}
+
+fn operation_in(x: &Expr) -> Option<Operation<'_>>
+    ensures { option_map seen result ≡ form.operation_in x.now }
+{
+    match x {
+        Expr::Chain(first, links) => match only(links.as_slice()) {
+            Some(link) => with_link(first.get(), link),
+            None => None,
+        },
+        _ => None,
+    }
+}
+
+fn value_in(statement: &Stmt) -> Option<&Expr>
+    ensures { option_map (λ x. x.now) result ≡ form.value_in statement.now }
+{
+    match statement {
+        Stmt::Return(_, values) => only(values.as_slice()),
+        _ => None,
+    }
+}
+
+/// The operation that a body returns.
+fn returned(body: &[Stmt]) -> Option<Operation<'_>>
+    ensures { option_map seen result ≡ form.returned body.now }
+{
+    match only(body) {
+        Some(statement) => match value_in(statement) {
+            Some(value) => operation_in(value),
+            None => None,
+        },
+        None => None,
+    }
+}
+
+/// The number of the parameter with this name.
+fn number_in(first: &Name, second: &Name, x: &Name) -> Option<u32>
+    ensures { result ≡ form.number_in first.now second.now x.now }
+{
+    if x.text.as_slice() == first.text.as_slice() {
+        Some(0)
+    } else if x.text.as_slice() == second.text.as_slice() {
+        Some(1)
+    } else {
+        None
+    }
+}
+
+fn numbered(
+    function: &Function,
+    first: &Name,
+    second: &Name,
+    operation: &Operation<'_>,
+    numbers: (Option<u32>, Option<u32>),
+) -> Result<Option<ShortKernel>, AllocError>
+    ensures { IfOk result (λ kernel. kernel ≡ form.numbered function.now first.now second.now (seen operation.now) numbers.0 numbers.1) }
+{
+    match numbers {
+        (Some(left), Some(right)) => Ok(Some(ShortKernel {
+            name: function.name.text.try_copy()?,
+            first: first.text.try_copy()?,
+            second: second.text.try_copy()?,
+            op: operation.op,
+            left,
+            right,
+            at: operation.at,
+            weight: function.weight,
+        })),
+        _ => Ok(None),
+    }
+}
+
+fn kernel_of(
+    function: &Function,
+    first: &Name,
+    second: &Name,
+    operation: &Operation<'_>,
+) -> Result<Option<ShortKernel>, AllocError>
+    ensures { IfOk result (λ kernel. kernel ≡ form.kernel_of function.now first.now second.now (seen operation.now)) }
+{
+    let left = number_in(first, second, operation.left);
+    let right = number_in(first, second, operation.right);
+    numbered(function, first, second, operation, (left, right))
+}
+
+fn kernel_with(
+    function: &Function,
+    params: &[Name],
+    operation: Option<Operation<'_>>,
+) -> Result<Option<ShortKernel>, AllocError>
+    ensures { IfOk result (λ kernel. kernel ≡ form.kernel_with function.now params.now (option_map seen operation.entry)) }
+{
+    match (params, operation) {
+        ([first, second], Some(operation)) => kernel_of(function, first, second, &operation),
+        _ => Ok(None),
+    }
+}
+
+fn kernel_in(function: &Function) -> Result<Option<ShortKernel>, AllocError>
+    ensures { IfOk result (λ kernel. kernel ≡ form.kernel_in function.now) }
+{
+    kernel_with(
+        function,
+        function.params.as_slice(),
+        returned(function.body.as_slice()),
+    )
+}
+
+/// The only kernel whose module the tree may be.
+fn candidate(tree: &Module) -> Result<Option<ShortKernel>, AllocError>
+    ensures { IfOk result (λ kernel. kernel ≡ form.candidate tree.now) }
+{
+    match only(tree.functions.as_slice()) {
+        Some(function) => kernel_in(function),
+        None => Ok(None),
+    }
+}
+
+fn is_built_in(name: &[u8]) -> bool
+    ensures { result ≡ list_any (bytes_eq name.now) spec.built_in }
+{
+    contains(&BUILT_IN, name)
 }
 
 fn contains(mut words: &[&[u8]], word: &[u8]) -> bool
@@ -74,259 +205,11 @@ fn contains(mut words: &[&[u8]], word: &[u8]) -> bool
     false
 }
 
-fn is_reserved(word: &[u8]) -> bool
-    ensures { result ≡ list_any (bytes_eq word.now) spec.reserved }
-{
-    contains(&RESERVED, word)
-}
-
-fn are_words(name: &[u8]) -> bool
-    ensures { result ≡ list_all spec.is_word name.now }
-{
-    let mut rest = name;
-    while let [byte, others @ ..] = rest {
-        if !is_word(*byte) {
-            return false;
-        }
-        rest = others;
-    }
-    true
-}
-
-fn begins_with_digit(name: &[u8]) -> bool
-    requires { 0 < length name.now }
-    ensures { result ≡ is_ascii_digit (slice_index name.now 0) }
-{
-    name[0].is_ascii_digit()
-}
-
 /// Whether a kernel or a parameter may have this name.
 fn is_free_name(name: &[u8]) -> bool
     ensures { result ≡ spec.is_free_name name.now }
 {
-    if name.is_empty() || begins_with_digit(name) {
-        return false;
-    }
-    are_words(name) && !is_reserved(name)
-}
-
-/// How many letters, digits and `_` stand at the front.
-fn word_len(text: &[u8]) -> usize
-    ensures value { result ≡ spec.word_len text.now }
-    ensures within { result ≤ length text.now }
-{
-    let mut end = 0;
-    while end < text.len() && is_word(text[end]) {
-        end += 1;
-    }
-    end
-}
-
-fn skip(text: &[u8], count: usize) -> &[u8]
-    ensures value { result.now ≡ drop count text.now }
-    ensures within { length result.now ≤ length text.now }
-{
-    match text.get(count..) {
-        Some(rest) => rest,
-        None => &text[text.len()..],
-    }
-}
-
-/// What stands behind the word at the front and `count` bytes more.
-fn behind_word(text: &[u8], count: usize) -> &[u8]
-    ensures value { result.now ≡ spec.behind_word count text.now }
-    ensures within { length result.now ≤ length text.now }
-{
-    skip(skip(text, word_len(text)), count)
-}
-
-fn word(text: &[u8]) -> &[u8]
-    ensures value { result.now ≡ spec.word text.now }
-    ensures within { length result.now ≤ length text.now }
-{
-    &text[..word_len(text)]
-}
-
-fn operation_of(text: &[u8]) -> BinOp
-    ensures { result ≡ spec.operation_of (slice_index text.now 0) }
-{
-    match text {
-        [b'+', ..] => BinOp::Add,
-        _ => BinOp::Mul,
-    }
-}
-
-fn number_in(first: &[u8], name: &[u8]) -> u32
-    ensures { result ≡ spec.number_in first.now name.now }
-{
-    if name == first { 0 } else { 1 }
-}
-
-fn copy_of(alloc: Global, text: &[u8]) -> Result<Text, AllocError>
-    ensures { IfOk result (λ copy. copy ≡ text.now) }
-{
-    let items = Vec::from_slice(alloc, text)?;
-    Ok(Seq::from_vec(items))
-}
-
-/// The words of a module's text, where the form has them.
-#[derive(Clone, Copy)]
-struct Words<'a> {
-    name: &'a [u8],
-    first: &'a [u8],
-    second: &'a [u8],
-    left: &'a [u8],
-    operator: &'a [u8],
-    right: &'a [u8],
-}
-
-fn words_of(text: &[u8]) -> Words<'_>
-    ensures value { WordsOf text.entry.now result }
-    ensures short { (length result.first.now ≤ length text.entry.now) × (length result.second.now ≤ length text.entry.now) }
-{
-    let note = skip(text, 16);
-    let head = behind_word(behind_word(note, 19), 1);
-    let second = behind_word(head, 2);
-    let value = behind_word(second, 14);
-    let operator = behind_word(value, 1);
-    Words {
-        name: word(note),
-        first: word(head),
-        second: word(second),
-        left: word(value),
-        operator,
-        right: word(skip(operator, 2)),
-    }
-}
-
-/// The place of an operator on the third line that stands behind this operand.
-fn place_behind(operand: &[u8]) -> Loc
-    requires { length operand.now ≤ 2 ^ 31 }
-    ensures { result ≡ record { line = 3; col = 13 + length operand.now } }
-{
-    Loc {
-        line: 3,
-        col: 13 + operand.len() as u32,
-    }
-}
-
-/// The kernel of these words.
-fn kernel_of(alloc: Global, words: &Words<'_>) -> Result<ShortKernel, AllocError>
-    requires { (length words.now.first.now ≤ 2 ^ 31) × (length words.now.second.now ≤ 2 ^ 31) }
-    ensures { IfOk result (λ kernel. kernel ≡ spec.kernel_of words.now.name.now words.now.first.now words.now.second.now words.now.left.now (slice_index words.now.operator.now 0) words.now.right.now) }
-{
-    let left = number_in(words.first, words.left);
-    let at = if left == 0 {
-        place_behind(words.first)
-    } else {
-        place_behind(words.second)
-    };
-    Ok(ShortKernel {
-        name: copy_of(alloc, words.name)?,
-        first: copy_of(alloc, words.first)?,
-        second: copy_of(alloc, words.second)?,
-        op: operation_of(words.operator),
-        left,
-        right: number_in(words.first, words.right),
-        at,
-    })
-}
-
-/// The only kernel whose module the text may be.
-fn candidate(alloc: Global, text: &[u8]) -> Result<ShortKernel, AllocError>
-    requires { length text.now ≤ 2 ^ 31 }
-    ensures { IfOk result (λ kernel. kernel ≡ spec.candidate text.now) }
-{
-    let words = words_of(text);
-    kernel_of(alloc, &words)
-}
-
-fn parameter(kernel: &ShortKernel, number: u32) -> &[u8]
-    ensures { result.now ≡ spec.parameter kernel.now number }
-{
-    if number == 0 {
-        kernel.first.as_slice()
-    } else {
-        kernel.second.as_slice()
-    }
-}
-
-fn sign(op: BinOp) -> &'static [u8]
-    ensures { result.now ≡ spec.sign op }
-{
-    match op {
-        BinOp::Add => b"+",
-        BinOp::Mul => b"*",
-        _ => b"",
-    }
-}
-
-fn append_between(
-    text: &mut Vec<u8>,
-    before: &[u8],
-    name: &[u8],
-    after: &[u8],
-) -> Result<(), AllocError>
-    ensures { OnOk result (text.new.items ≡ text.old.items ++ spec.between before.now name.now after.now) }
-{
-    text.extend_from_slice(before)?;
-    text.extend_from_slice(name)?;
-    text.extend_from_slice(after)
-}
-
-fn append_note(text: &mut Vec<u8>, kernel: &ShortKernel) -> Result<(), AllocError>
-    ensures { OnOk result (text.new.items ≡ text.old.items ++ spec.note_line kernel.now) }
-{
-    append_between(
-        text,
-        b"#pythran export ",
-        kernel.name.as_slice(),
-        b"(int[], int[])\n",
-    )
-}
-
-fn append_def(text: &mut Vec<u8>, kernel: &ShortKernel) -> Result<(), AllocError>
-    ensures { OnOk result (text.new.items ≡ text.old.items ++ spec.def_line kernel.now) }
-{
-    append_between(text, b"def ", kernel.name.as_slice(), b"(")?;
-    append_between(text, b"", kernel.first.as_slice(), b", ")?;
-    append_between(text, b"", kernel.second.as_slice(), b"):\n")
-}
-
-fn append_return(text: &mut Vec<u8>, kernel: &ShortKernel) -> Result<(), AllocError>
-    ensures { OnOk result (text.new.items ≡ text.old.items ++ spec.return_line kernel.now) }
-{
-    append_between(text, b"    return ", parameter(kernel, kernel.left), b" ")?;
-    append_between(text, sign(kernel.op), b" ", parameter(kernel, kernel.right))
-}
-
-/// The text of a module of this kernel, without its last line end.
-fn module_text(alloc: Global, kernel: &ShortKernel) -> Result<Vec<u8>, AllocError>
-    ensures { IfOk result (λ text. text.items ≡ spec.module_text kernel.now) }
-{
-    let mut text = Vec::new(alloc);
-    append_note(&mut text, kernel)?;
-    append_def(&mut text, kernel)?;
-    append_return(&mut text, kernel)?;
-    Ok(text)
-}
-
-fn is_same(left: &[u8], right: &[u8]) -> bool
-    ensures { IsTrue result ↔ (left.now ≡ right.now) }
-{
-    left == right
-}
-
-/// Whether the text is that of a module of this kernel, as far as its words are the kernel's.
-fn is_text_of(alloc: Global, text: &[u8], kernel: &ShortKernel) -> Result<bool, AllocError>
-    ensures { IfOk result (λ same. IsTrue same ↔ spec.IsTextOf text.now kernel.now) }
-{
-    let mut form = module_text(alloc, kernel)?;
-    if is_same(text, form.as_slice()) {
-        return Ok(true);
-    }
-    form.push(b'\n')?;
-    Ok(is_same(text, form.as_slice()))
+    !is_built_in(name)
 }
 
 fn are_names(kernel: &ShortKernel) -> bool
@@ -341,24 +224,124 @@ fn are_names(kernel: &ShortKernel) -> bool
     first != name && second != name && second != first
 }
 
-fn is_module_of(alloc: Global, text: &[u8], kernel: &ShortKernel) -> Result<bool, AllocError>
-    ensures { IfOk result (λ holds. IsTrue holds ↔ ((spec.are_names kernel.now ≡ true) × spec.IsTextOf text.now kernel.now)) }
+fn is_short(op: BinOp) -> bool
+    ensures { result ≡ spec.is_short op }
 {
-    if !are_names(kernel) {
-        return Ok(false);
-    }
-    is_text_of(alloc, text, kernel)
+    matches!(op, BinOp::Add | BinOp::Mul)
 }
 
-/// The kernel whose module the text is, or none where it is no module of the form.
-pub fn read_module(alloc: Global, text: &[u8]) -> Result<Option<ShortKernel>, AllocError>
-    requires { length text.now ≤ 2 ^ 31 }
-    ensures { IfOk result (IsReading text.now) }
+/// The note that exports a kernel.
+fn export_text(alloc: Global, kernel: &ShortKernel) -> Result<Vec<u8>, AllocError>
+    ensures { IfOk result (λ text. text.items ≡ spec.export_text kernel.now) }
 {
-    let kernel = candidate(alloc, text)?;
-    if is_module_of(alloc, text, &kernel)? {
+    let mut text = Vec::new(alloc);
+    text.extend_from_slice(b"#pythran export ")?;
+    text.extend_from_slice(kernel.name.as_slice())?;
+    text.extend_from_slice(b"(int[], int[])")?;
+    Ok(text)
+}
+
+fn is_same(left: &[u8], right: &[u8]) -> bool
+    ensures { result ≡ bytes_eq left.now right.now }
+{
+    left == right
+}
+
+fn is_exported_by(alloc: Global, notes: &[Note], kernel: &ShortKernel) -> Result<bool, AllocError>
+    ensures { IfOk result (λ holds. holds ≡ form.is_exported_by (form.only notes.now) kernel.now) }
+{
+    match only(notes) {
+        Some(note) => {
+            let text = export_text(alloc, kernel)?;
+            Ok(is_same(note.text.as_slice(), text.as_slice()))
+        }
+        None => Ok(false),
+    }
+}
+
+fn is_empty(imports: &[Import]) -> bool
+    ensures { result ≡ form.is_empty imports.now }
+{
+    match imports {
+        [] => true,
+        _ => false,
+    }
+}
+
+/// Whether the candidate of a tree is its kernel.
+fn is_whole(alloc: Global, tree: &Module, kernel: &ShortKernel) -> Result<bool, AllocError>
+    ensures { IfOk result (λ holds. holds ≡ form.is_whole tree.now kernel.now) }
+{
+    if !is_empty(tree.imports.as_slice()) {
+        return Ok(false);
+    }
+    if !are_names(kernel) || !is_short(kernel.op) {
+        return Ok(false);
+    }
+    is_exported_by(alloc, tree.notes.as_slice(), kernel)
+}
+
+fn whole(
+    alloc: Global,
+    tree: &Module,
+    kernel: ShortKernel,
+) -> Result<Option<ShortKernel>, AllocError>
+    ensures { IfOk result (λ found. found ≡ form.whole tree.now kernel) }
+{
+    if is_whole(alloc, tree, &kernel)? {
         Ok(Some(kernel))
     } else {
         Ok(None)
+    }
+}
+
+/// The kernel of a tree, or none where it is no module of the form.
+fn form_of(alloc: Global, tree: &Module) -> Result<Option<ShortKernel>, AllocError>
+    ensures { IfOk result (λ found. found ≡ form.form_of tree.now) }
+{
+    match candidate(tree)? {
+        Some(kernel) => whole(alloc, tree, kernel),
+        None => Ok(None),
+    }
+}
+
+/// The refusal of a tree that is no module of the form.
+fn no_module() -> Refusal
+    ensures { result ≡ reading.no_module }
+{
+    Refusal {
+        rule: Rule::Profile,
+        loc: Loc { line: 1, col: 1 },
+    }
+}
+
+fn read_tokens(
+    alloc: Global,
+    text: &[u8],
+    tokens: &Tokens,
+) -> Result<Result<ShortKernel, Refusal>, NoMemory>
+    requires { IsLexed text.now tokens.now }
+    ensures { IfOk result (reading.IsOneReading text.now) }
+{
+    match parse(alloc, text, tokens) {
+        Ok(tree) => match form_of(alloc, &tree)? {
+            Some(kernel) => Ok(Ok(kernel)),
+            None => Ok(Err(no_module())),
+        },
+        Err(Stop::Refused(syntax)) => Ok(Err(syntax)),
+        Err(Stop::Memory) => Err(NoMemory),
+    }
+}
+
+/// The kernel whose module the text is, or the refusal of the first rule that refuses it: `Lex`, `Syntax`, or `Profile` where it is no
+/// module of the form.
+pub fn read_module(alloc: Global, text: &[u8]) -> Result<Result<ShortKernel, Refusal>, NoMemory>
+    requires { length text.now ≤ 2 ^ 31 }
+    ensures { IfOk result (reading.IsOneReading text.now) }
+{
+    match tokens(alloc, text) {
+        Ok(tokens) => read_tokens(alloc, text, &tokens),
+        Err(Stop::Refused(lexical)) => Ok(Err(lexical)),
+        Err(Stop::Memory) => Err(NoMemory),
     }
 }

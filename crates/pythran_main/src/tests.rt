@@ -70,6 +70,29 @@ fn call<R: Threads + Sync>(
     Ok((status, out, err))
 }
 
+/// The status, the output and the error output of a call of `add` with a module of this text.
+fn call_text<R: Threads + Sync>(
+    rt: &R,
+    alloc: Global,
+    text: &str,
+) -> Result<(u8, MemSink, MemSink), Fail> {
+    let slots = vec![in alloc; make_slot(alloc, "m.py", text)?]?;
+    let mut files = MemFiles::new(alloc, slots, Vec::new(alloc))?;
+    let mut out = MemSink::new(alloc, 1000, Vec::new(alloc))?;
+    let mut err = MemSink::new(alloc, 100, Vec::new(alloc))?;
+    let words = make_words(alloc, "run m.py add buf:A=1,2,3 a=@A b=@A")?;
+    let status = pythran(
+        rt,
+        alloc,
+        words.as_slice(),
+        &mut files,
+        &mut out,
+        &mut err,
+        &OpenGate,
+    );
+    Ok((status, out, err))
+}
+
 #[test]
 fn answers_of_calls(rt: HostRuntime) -> Result<(), Fail> {
     let rows = [
@@ -109,6 +132,27 @@ fn answers_of_calls(rt: HostRuntime) -> Result<(), Fail> {
             0,
             "return int64 (3,) 9 0 16\nbuffer A int64 (1,) 1\nbuffer _b int64 (3,) -3 0 4\ncounts nests 1 temps 0 parallel 0 serial 0\n",
             "",
+        ),
+        (
+            "def add(a, b): return a + b\n\n#pythran export add(int[], int[])",
+            "run m.py add buf:A=1,2,3 buf:B=1,2 a=@A b=@B",
+            1,
+            "fault ValueError 1:25\nbuffer A int64 (3,) 1 2 3\nbuffer B int64 (2,) 1 2\ncounts nests 0 temps 0 parallel 0 serial 0\n",
+            "",
+        ),
+        (
+            "def add(a, b): return a + 08",
+            "run m.py sum buf:A=x",
+            3,
+            "",
+            "refused Lex 1:27\n",
+        ),
+        (
+            "def add(a, b)",
+            "run m.py sum buf:A=x",
+            3,
+            "",
+            "refused Syntax 1:14\n",
         ),
         (ADD, "", 2, "", "error words\n"),
         (ADD, "frob", 2, "", "error words\n"),
@@ -174,6 +218,62 @@ fn answers_of_calls(rt: HostRuntime) -> Result<(), Fail> {
         assert_eq!(rt; ended, status, "{words}");
         assert_eq!(rt; output.written(), out.as_bytes(), "{words}");
         assert_eq!(rt; errors.written(), err.as_bytes(), "{words}");
+    }
+    Ok(())
+}
+
+/// Modules by what stands before the note, the `def`, the returned value, and what is told of them.
+#[test]
+fn readings_of_modules(rt: HostRuntime) -> Result<(), Fail> {
+    let add = "def add(a, b):";
+    let note = "#pythran export add(int[], int[])\n";
+    let profile = "refused Profile 1:1\n";
+    let rows = [
+        // comments, blank lines, texts between, and other layouts of the same tree
+        ("# a sum\n\n", "def add(a, b):  # of rows\n", "a + b", ""),
+        ("'a text'\n", add, "a+b", ""),
+        ("", "def add(\n  a, b,):", "a + b,", ""),
+        ("", add, "(a\n+ b)", ""),
+        // no tokens
+        ("", add, "a + 9223372036854775808", "refused Lex 3:16\n"),
+        ("", "def add(a, b)", "a + 012", "refused Lex 3:16\n"),
+        ("", add, "a + b\n  # c\n  x", "refused Lex 5:3\n"),
+        ("", add, "a $ b", "refused Lex 3:14\n"),
+        // no tree
+        ("", "def add(a, b)", "a + b", "refused Syntax 2:14\n"),
+        ("", add, "a + (b", "refused Syntax 4:1\n"),
+        ("", add, "a +", "refused Syntax 3:15\n"),
+        ("", add, "a < b < a", "refused Syntax 3:18\n"),
+        ("", "x = 1", "a + b", "refused Syntax 2:1\n"),
+        ("def\n", add, "a + b", "refused Syntax 1:4\n"),
+        // another tree
+        ("", add, "a - b", profile),
+        ("", add, "(a + b,)", profile),
+        ("", add, "a + b, a", profile),
+        ("", add, "a + b + a", profile),
+        ("", add, "a + 1", profile),
+        ("", add, "a + c", profile),
+        ("", "def add(a, b):\n    'a text'", "a + b", profile),
+        ("", "def add(a, b, c):", "a + b", profile),
+        ("", "def add(a, a):", "a + a", profile),
+        ("", "def add(add, b):", "add + b", profile),
+        ("", "def add(a, max):", "a + max", profile),
+        ("", "def sum(a, b):", "a + b", profile),
+        ("import numpy\n", add, "a + b", profile),
+        (note, add, "a + b", profile),
+        ("def f():\n    pass\n", add, "a + b", profile),
+    ];
+    let alloc = rt.alloc();
+    for (before, head, value, told) in rows {
+        let text = format!(in alloc; "{before}{note}{head}\n    return {value}\n")?;
+        let (status, out, err) = call_text(&rt, alloc, text.as_str())?;
+        assert_eq!(rt; status, if told.is_empty() { 0 } else { 3 }, "{text}");
+        assert_eq!(rt;
+            out.written(),
+            if told.is_empty() { ROW.as_bytes() } else { b"" },
+            "{text}"
+        );
+        assert_eq!(rt; err.written(), told.as_bytes(), "{text}");
     }
     Ok(())
 }

@@ -1,4 +1,3 @@
-use Rattle.std.proofs.Common.{refl}
 use Rattle.pythran_main.specs.World.{sink, world}
 use Rattle.pythran_main.specs.Request.{texts}
 use Rattle.pythran_main.proofs.Theorem.{done_at, no_request_at, words_at, refused_at, item_at, failed_at, memory_at, long_at, status_within, complete_at, long_file_at}

@@ -1,5 +1,5 @@
-use Rattle.std.proofs.Common.{◌≡◌, ◌≤◌, ◌<◌, ◌∙◌, ap, length, map, subst, ℕ, slice_index, slice_index_or, pos, rules, SFits, w64, to_z-of_z}
-use Rattle.eager_rules.specs.State.{words_of, elements_at}
+use Rattle.std.proofs.Common.{◌≡◌, ◌≤◌, ◌∙◌, ap, length, map, slice_index, slice_index_or, pos, rules, SFits, w64, to_z-of_z}
+use Rattle.eager_rules.specs.State.{words_of}
 use Rattle.pythran_main.specs.Rows.{repeated}
 use Rattle.view_places.specs.Strides.{place_at}
 use Rattle.view_places.specs.View.{places}
