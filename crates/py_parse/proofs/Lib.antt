@@ -21,6 +21,7 @@ pub mod ReadBlocks
 pub mod ReadModules
 pub mod BlockLevelLaws
 pub mod LexedFacts
+pub mod NextLaws
 pub mod NoteLaws
 pub mod Rows
 pub mod Trailers

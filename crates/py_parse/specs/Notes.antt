@@ -1,5 +1,6 @@
 -- The notes of a module, each with the token that it speaks of.
-use Rattle.std.specs.Prelude.{ℕ, Bool, true, false, not, ◌&&◌, if◌then◌else◌, nat_le, List, [], ◌∷◌, map}
+use Rattle.std.specs.Prelude.{◌≡◌, Bool, true, false, not, ◌&&◌, if◌then◌else◌, nat_le, IsTrue, List, [], ◌∷◌, ◌++◌, map}
+use Rattle.std.specs.List.{AllByRecursion}
 use Rattle.py_lex.specs.Bytes.{Bytes}
 use Rattle.py_lex.specs.Lexed.{text_of}
 use Rattle.py_lex.specs.declared.token.Token.{Token}
@@ -27,3 +28,23 @@ note_of source tokens note = record { text = text_of source note; loc = note.loc
 
 abbrev pub notes_of : Bytes → List Token → List Token → List Note
 notes_of source tokens notes = map (note_of source tokens) notes
+
+-- the first of these tokens that stands behind the note
+pub record IsFirstBehind (note : Token) (tokens : List Token) (next : Token) : Type 0 where
+  pub before : List Token
+  pub after : List Token
+  pub parts : tokens ≡ before ++ next ∷ after
+  pub behind : IsTrue (is_behind note next)
+  pub first : AllByRecursion (λ t. is_behind note t ≡ false) before
+
+-- a note of the tree has the text and the place of its note in the source, and the first of the tokens behind it
+pub record IsFollowed (source : Bytes) (tokens : List Token) (note : Token) (n : Note) : Type 0 where
+  pub text_is : n.text ≡ text_of source note
+  pub loc_is : n.loc ≡ note.loc
+  pub next_is : IsFirstBehind note tokens n.next
+
+-- the notes of the tree are those of the source, one by one
+abbrev pub AreFollowed : Bytes → List Token → List Token → List Note → Type 0
+AreFollowed source tokens [] [] = Unit {0}
+AreFollowed source tokens (note ∷ notes) (n ∷ ns) = IsFollowed source tokens note n × AreFollowed source tokens notes ns
+AreFollowed source tokens _ _ = ⊥
