@@ -1,7 +1,6 @@
 -- A block by what stands one level further in.
-use Rattle.std.proofs.Common.{◌≡◌, ℕ, zero, suc, ◌+◌, ◌-◌, refl, arith}
-use Rattle.py_parse.specs.Parser.{Parser}
-use Rattle.py_parse.specs.Blocks.{Arms, block, tail, stmt, block_with, tail_with, stmt_with, elif_with}
+use Rattle.std.proofs.Common.{◌≡◌, ℕ, zero, suc, ◌-◌, refl, arith}
+use Rattle.py_parse.specs.Blocks.{block, tail, stmt, block_with, tail_with}
 use Rattle.py_parse.specs.BlockLevels.{stmt_inside, elif_inside, IsInside, IsInmost}
 
 inside-suc : (n inner : ℕ) → inner ≡ n → IsInside (suc n) inner

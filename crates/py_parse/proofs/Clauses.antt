@@ -1,5 +1,5 @@
 -- The clauses of `parse`, from what the descent answers.
-use Rattle.std.proofs.Common.{◌≡◌, ℕ, Result, IfOk, IfErr, subst}
+use Rattle.std.proofs.Common.{◌≡◌, Result, IfOk, IfErr, subst}
 use Rattle.krn_base.specs.declared.refusal.Refusal.{Refusal}
 use Rattle.krn_base.specs.declared.refusal.Stop.{Stop}
 use Rattle.krn_base.specs.declared.refusal.Stop.TheVariants as stop

@@ -1,18 +1,17 @@
 -- Following: what a parser reads has the relation of a rule, and where it stops the rule's symbols stop.
-use Rattle.std.proofs.Common.{◌≡◌, ℕ, zero, suc, ◌+◌, ◌≤◌, ◌<◌, Bool, true, false, List, [], ◌∷◌, ◌++◌, length, Option, Some, None, Result, Ok, Err, inl, inr, refl, ap, sym, subst, ◌∙◌, append_assoc, length-append, arith, if◌then◌else◌, ℤ, pos}
+use Rattle.std.proofs.Common.{◌≡◌, ℕ, suc, ◌≤◌, ◌<◌, Bool, true, false, [], ◌∷◌, ◌++◌, length, Option, Some, None, Ok, Err, refl, ap, sym, subst, ◌∙◌, append_assoc, length-append, arith, if◌then◌else◌, ℤ, pos}
 use Rattle.std.proofs.lemmas.List.{append-nil}
-use denote.Enum.Bare.{same_true, true_same, same_false, false_same}
+use denote.Enum.Bare.{same_true, true_same}
 use Rattle.krn_base.specs.declared.place.Loc.{Loc}
 use Rattle.py_parse.specs.contracts.terminal.Terminal.{the_type}
 use Rattle.py_parse.specs.declared.terminal.Terminal.{Terminal}
 use Rattle.py_parse.specs.declared.terminal.Terminal.TheVariants as t
-use Rattle.py_parse.specs.declared.tree.Name.{Name}
-use Rattle.py_parse.specs.Lexemes.{Lexeme, Lexemes, same}
+use Rattle.py_parse.specs.Lexemes.{Lexemes, same}
 use Rattle.py_parse.specs.Parser as p
 use Rattle.py_parse.specs.Parser.{Outcome, Parser, and_then, kind, place, spelling, next, name_at}
 use Rattle.py_parse.specs.Grammar as g
 use Rattle.py_parse.specs.Grammar.{Grammar, ◌>>=◌}
-use Rattle.py_parse.specs.Stack.{Symbol, Stack, Rule, T, N, row, run, by_row, Verdict, Accepted, Refused, RefusedAt}
+use Rattle.py_parse.specs.Stack.{Stack, Rule, T, N, row, run, by_row, Refused, RefusedAt}
 use Rattle.py_parse.specs.Trees.{value_of}
 
 -- from one stack and lexemes the machine comes to another

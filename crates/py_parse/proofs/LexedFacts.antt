@@ -1,5 +1,5 @@
 -- What reading a module takes from the laws of its tokens.
-use Rattle.std.proofs.Common.{◌≡◌, ℕ, ◌+◌, ◌^◌, ◌<◌, ◌≤◌, List, [], ◌∷◌, length, arith}
+use Rattle.std.proofs.Common.{ℕ, ◌^◌, ◌≤◌, List, [], ◌∷◌, length, arith}
 use Rattle.std.specs.List.{AllByRecursion}
 use Rattle.py_lex.specs.Bytes.{Bytes}
 use Rattle.py_lex.specs.Layout.{limit}

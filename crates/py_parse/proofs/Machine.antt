@@ -1,13 +1,13 @@
 -- Laws of the stack of symbols alone: an end stays the end, a refusal leaves what stands behind it out, and comes at a lexeme
 -- whatever stands behind that.
-use Rattle.std.proofs.Common.{◌≡◌, ℕ, zero, suc, ◌+◌, Bool, true, false, List, [], ◌∷◌, ◌++◌, length, Option, Some, None, refl, ap, sym, subst, ◌∙◌, length-append, suc-add, add_comm, arith, if◌then◌else◌}
+use Rattle.std.proofs.Common.{◌≡◌, ℕ, zero, suc, ◌+◌, Bool, true, false, [], ◌∷◌, ◌++◌, length, Option, Some, None, refl, ap, sym, subst, ◌∙◌, length-append, suc-add, add_comm, arith, if◌then◌else◌}
 use denote.Enum.Bare.{same_true, true_same}
 use Rattle.py_parse.specs.contracts.terminal.Terminal.{the_type}
 use Rattle.py_parse.specs.declared.terminal.Terminal.{Terminal}
 use Rattle.py_parse.specs.declared.terminal.Terminal.TheVariants as t
 use Rattle.py_parse.specs.Lexemes.{Lexeme, Lexemes, same}
 use Rattle.py_parse.specs.Parser.{kind, next}
-use Rattle.py_parse.specs.Stack.{Symbol, Stack, Rule, T, N, row, run, by_row, Verdict, Accepted, Refused, Unfinished, RefusedAt}
+use Rattle.py_parse.specs.Stack.{Stack, Rule, T, N, row, run, by_row, Verdict, Accepted, Refused, Unfinished, RefusedAt}
 use Rattle.py_parse.proofs.Follows.{Leads}
 
 pub same_self : (k : Terminal) → same k k ≡ true

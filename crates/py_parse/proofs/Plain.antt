@@ -1,12 +1,12 @@
 -- A plain completion of every stack that a module's rows make. The stack takes it, unless it has come to a block for which no level is
 -- left; the stack with one level more takes it then.
-use Rattle.std.proofs.Common.{◌≡◌, ℕ, zero, suc, ◌+◌, ◌==◌, ◌⊎◌, inl, inr, Bool, true, false, List, [], ◌∷◌, ◌++◌, map, length, Option, Some, None, refl, ap, sym, subst, ◌∙◌, append_assoc, arith, if◌then◌else◌}
+use Rattle.std.proofs.Common.{◌≡◌, ℕ, zero, suc, ◌==◌, ◌⊎◌, inl, inr, Bool, true, false, List, [], ◌∷◌, ◌++◌, map, Option, Some, None, refl, ap, sym, subst, ◌∙◌, if◌then◌else◌}
 use Rattle.py_parse.specs.declared.terminal.Terminal.{Terminal}
 use Rattle.py_parse.specs.declared.terminal.Terminal.TheVariants as t
 use Rattle.py_parse.specs.Lexemes.{Lexeme, Lexemes, same}
-use Rattle.py_parse.specs.Parser.{kind, next}
-use Rattle.py_parse.specs.Trees.{operator_at, comparison, augmented, sign, binary, level}
-use Rattle.py_parse.specs.Stack.{Symbol, Stack, Rule, T, N, Item, Param, Value, Element, Argument, Subscript, Expr, Ors, Conjunction, Ands, Inverted, Compared, Comparison, Chain, Links, Unary, Power, Exponent, Primary, Atom, Parenthesis, Trailers, Arg, Keyed, Subscripted, Sliced, Cut, Bound, Step, Items, More, Comma, Simple, Stored, Line, Block, Indented, Stmts, Stmt, Tail, Alias, Parts, row, deeper, with_operator, signed_row, close_of, item_symbol, run, by_row, Verdict, Accepted, Refused, Unfinished, RefusedAt}
+use Rattle.py_parse.specs.Parser.{kind}
+use Rattle.py_parse.specs.Trees.{operator_at, comparison, augmented, sign}
+use Rattle.py_parse.specs.Stack.{Symbol, Stack, Rule, T, N, Item, Param, Value, Element, Argument, Subscript, Expr, Ors, Conjunction, Ands, Inverted, Compared, Comparison, Chain, Links, Unary, Power, Exponent, Primary, Atom, Parenthesis, Trailers, Arg, Keyed, Subscripted, Sliced, Cut, Bound, Step, Items, More, Comma, Simple, Stored, Line, Block, Indented, Stmts, Stmt, Tail, Alias, Parts, row, with_operator, signed_row, close_of, item_symbol, run, by_row, Verdict, Accepted, Refused, Unfinished, RefusedAt}
 use Rattle.py_parse.proofs.Follows.{Leads}
 use Rattle.py_parse.proofs.Machine.{same_self, one_kind, Accepts, EndsWith, not_both, refused_same, too_soon, stay, then_on, expand, skip, eat, accepts_on}
 

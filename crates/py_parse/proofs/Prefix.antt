@@ -1,6 +1,5 @@
 -- What stands before a refused lexeme is the longest part that begins lexemes with a tree, and the clauses of `parse` by that.
-use Rattle.std.proofs.Common.{◌≡◌, ℕ, zero, suc, ◌⊎◌, inl, inr, Bool, true, false, List, [], ◌∷◌, ◌++◌, Result, Ok, Err, IfOk, IfErr, refl, ap, sym, subst, ◌∙◌, append_assoc, if◌then◌else◌}
-use Rattle.krn_base.specs.declared.place.Loc.{Loc}
+use Rattle.std.proofs.Common.{◌≡◌, ℕ, suc, ◌⊎◌, inl, inr, Bool, List, [], ◌∷◌, ◌++◌, Result, Ok, Err, IfOk, IfErr, refl, ap, sym, subst, ◌∙◌, append_assoc, if◌then◌else◌}
 use Rattle.krn_base.specs.declared.refusal.Stop.{Stop}
 use Rattle.krn_base.specs.declared.refusal.Stop.TheVariants as stop
 use Rattle.py_lex.specs.Bytes.{Bytes}
@@ -9,15 +8,12 @@ use Rattle.py_lex.specs.declared.token.Token.{Token}
 use Rattle.py_lex.specs.declared.token.Tokens.{Tokens}
 use Rattle.py_lex.specs.declared.token.TokenKind.{TokenKind}
 use Rattle.py_parse.specs.declared.terminal.Terminal.TheVariants as t
-use Rattle.py_parse.specs.declared.tree.Import.{Import}
-use Rattle.py_parse.specs.declared.tree.Function.{Function}
 use Rattle.py_parse.specs.declared.tree.Module.{Module}
 use Rattle.py_parse.specs.declared.tree.Note.{Note}
 use Rattle.py_parse.specs.Grammar as g
 use Rattle.py_parse.specs.Lexemes.{Lexeme, Lexemes, lexeme, lexemes, terminal, same}
 use Rattle.py_parse.specs.Parser.{Outcome, kind, place}
 use Rattle.py_parse.specs.Blocks.{parts}
-use Rattle.py_parse.specs.Notes.{notes_of}
 use Rattle.py_parse.specs.Stack.{Stack, N, Parts, run, Accepted, Refused, RefusedAt}
 use Rattle.py_parse.specs.Parsed.{levels, Halves, IsModule, IsTree, Begins, IsDeepest, IsRefusedAt, IsRefusal, IsOnly}
 use Rattle.py_parse.specs.Descended.{IsDescended}

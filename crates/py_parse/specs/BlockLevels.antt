@@ -1,5 +1,5 @@
 -- What stands one level further in, as blocks have it.
-use Rattle.std.specs.Prelude.{◌≡◌, ℕ, zero, suc, ◌+◌, List, Option, Some, None, Result, Ok, Err}
+use Rattle.std.specs.Prelude.{◌≡◌, ℕ, zero, suc, ◌+◌, Option, Some, None, Result, Ok, Err}
 use Rattle.py_parse.specs.declared.failure.Failure.{Failure}
 use Rattle.py_parse.specs.declared.failure.Failure.TheVariants as failure
 use Rattle.py_parse.specs.declared.tree.Stmt.{Stmt}

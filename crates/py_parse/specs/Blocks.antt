@@ -1,5 +1,5 @@
 -- Statements and modules, read by descent.
-use Rattle.std.specs.Prelude.{ℕ, zero, suc, ◌+◌, ◌-◌, if◌then◌else◌, List, [], ◌∷◌, ◌++◌, length, Option, Some, None, Ok, Err}
+use Rattle.std.specs.Prelude.{ℕ, zero, suc, ◌-◌, List, [], ◌∷◌, ◌++◌, length, Option, Some, None, Ok}
 use Rattle.krn_base.specs.declared.place.Loc.{Loc}
 use Rattle.krn_base.specs.declared.operation.BinOp.{BinOp}
 use Rattle.py_parse.specs.declared.terminal.Terminal.{Terminal}
@@ -11,7 +11,6 @@ use Rattle.py_parse.specs.declared.tree.Expr.{Expr}
 use Rattle.py_parse.specs.declared.tree.Expr.TheVariants as e
 use Rattle.py_parse.specs.declared.tree.Stmt.{Stmt}
 use Rattle.py_parse.specs.declared.tree.Stmt.TheVariants as s
-use Rattle.py_parse.specs.Lexemes.{same}
 use Rattle.py_parse.specs.Trees.{augmented, trailed}
 use Rattle.py_parse.specs.Parser.{Parser, ◌>>=◌, and_then, pure, refuse, peek, here, take_place, take_name, expect, name, deeper, more, until}
 use Rattle.py_parse.specs.Descent.{expr, inside, trailers}

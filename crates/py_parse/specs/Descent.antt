@@ -2,7 +2,7 @@
 --
 -- A rule has the parser of expressions one level further in, for what stands inside brackets, and none where no bracket may open.
 -- A row of `not` and signs counts too: the rules that may begin with one have the number of levels that may still open in the row.
-use Rattle.std.specs.Prelude.{ℕ, ℤ, zero, suc, ◌+◌, ◌-◌, Bool, true, false, if◌then◌else◌, List, [], ◌∷◌, ◌++◌, length, Option, Some, None}
+use Rattle.std.specs.Prelude.{ℕ, zero, suc, true, false, if◌then◌else◌, List, [], ◌∷◌, ◌++◌, length, Option, Some, None}
 use Rattle.krn_base.specs.declared.place.Loc.{Loc}
 use Rattle.krn_base.specs.declared.operation.BinOp.{BinOp}
 use Rattle.py_parse.specs.declared.terminal.Terminal.{Terminal}
@@ -16,7 +16,7 @@ use Rattle.py_parse.specs.declared.tree.Sub.{Sub}
 use Rattle.py_parse.specs.declared.tree.Sub.TheVariants as sub
 use Rattle.py_parse.specs.Lexemes.{same}
 use Rattle.py_parse.specs.Trees.{operator_at, levels_of_operators, comparison, sign, chained, joined, trailed}
-use Rattle.py_parse.specs.Parser.{Parser, ◌>>=◌, pure, refuse, peek, take_place, take_name, take_value, here, expect, name, number, comma, deeper, some, more}
+use Rattle.py_parse.specs.Parser.{Parser, ◌>>=◌, pure, refuse, peek, take_place, take_name, take_value, here, expect, name, number, deeper, some, more}
 
 abbrev pub Inner : Type 0
 Inner = Option (Parser Expr)

@@ -2,7 +2,7 @@
 --
 -- A rule has the number of levels that may still open. Brackets, Indents, and `not` and signs in a row each open one; so does each
 -- `elif`, up to the end of its `if`. The rules that may begin with a row have the number of levels that may still open in it.
-use Rattle.std.specs.Prelude.{◌≡◌, ℕ, ℤ, pos, zero, suc, ◌+◌, ◌⊎◌, Bool, true, false, List, [], ◌∷◌, ◌++◌, length, Option, Some, None}
+use Rattle.std.specs.Prelude.{◌≡◌, ℕ, ℤ, pos, zero, suc, ◌⊎◌, true, false, List, [], ◌∷◌, ◌++◌, length, Option, Some, None}
 use Rattle.krn_base.specs.declared.place.Loc.{Loc}
 use Rattle.krn_base.specs.declared.operation.BinOp.{BinOp}
 use Rattle.py_lex.specs.Bytes.{Bytes}
@@ -20,7 +20,7 @@ use Rattle.py_parse.specs.declared.tree.Sub.{Sub}
 use Rattle.py_parse.specs.declared.tree.Sub.TheVariants as sub
 use Rattle.py_parse.specs.declared.tree.Stmt.{Stmt}
 use Rattle.py_parse.specs.declared.tree.Stmt.TheVariants as s
-use Rattle.py_parse.specs.Lexemes.{Lexeme, Lexemes}
+use Rattle.py_parse.specs.Lexemes.{Lexemes}
 use Rattle.py_parse.specs.Trees.{value_of, operator_at, levels_of_operators, comparison, augmented, sign, chained, joined, trailed}
 
 abbrev pub Grammar : Type 0 → Type 1

@@ -1,5 +1,5 @@
 -- What the tokens of a source are to the grammar: a terminal symbol each, with its place and its bytes.
-use Rattle.std.specs.Prelude.{ℕ, Bool, if◌then◌else◌, List, [], ◌∷◌, map, codes}
+use Rattle.std.specs.Prelude.{Bool, if◌then◌else◌, List, [], ◌∷◌, map, codes}
 use Rattle.std.specs.Str.{bytes_eq}
 use denote.Enum.Bare.{sameb}
 use Rattle.krn_base.specs.declared.place.Loc.{Loc}

@@ -1,5 +1,5 @@
 -- What the one pass over the notes and the tokens goes by.
-use Rattle.std.specs.Prelude.{ℕ, ◌≤◌, if◌then◌else◌, List, [], ◌∷◌}
+use Rattle.std.specs.Prelude.{◌≤◌, if◌then◌else◌, List, [], ◌∷◌}
 use Rattle.std.specs.List.{AllByRecursion}
 use Rattle.py_lex.specs.declared.token.Token.{Token}
 use Rattle.py_parse.specs.Notes.{is_behind}

@@ -7,7 +7,7 @@ use Rattle.py_parse.specs.declared.failure.Failure.TheVariants as failure
 use Rattle.py_parse.specs.declared.terminal.Terminal.{Terminal}
 use Rattle.py_parse.specs.declared.terminal.Terminal.TheVariants as t
 use Rattle.py_parse.specs.declared.tree.Name.{Name}
-use Rattle.py_parse.specs.Lexemes.{Lexeme, Lexemes, same}
+use Rattle.py_parse.specs.Lexemes.{Lexemes, same}
 use Rattle.py_parse.specs.Trees.{value_of}
 
 -- the next lexeme's terminal, place and bytes, and what stands behind it; past the last one stands the end

@@ -2,8 +2,7 @@
 -- symbol has no row, or which is not the terminal on top, is refused.
 --
 -- A symbol of a rule has the number of levels that may still open; at 0 a lexeme that opens one has no row.
-use Rattle.std.specs.Prelude.{◌≡◌, ℕ, zero, suc, ◌+◌, Bool, true, false, if◌then◌else◌, List, [], ◌∷◌, ◌++◌, Option, Some, None}
-use Rattle.krn_base.specs.declared.operation.BinOp.{BinOp}
+use Rattle.std.specs.Prelude.{◌≡◌, ℕ, zero, suc, if◌then◌else◌, List, [], ◌∷◌, ◌++◌, Option, Some, None}
 use Rattle.py_parse.specs.declared.terminal.Terminal.{Terminal}
 use Rattle.py_parse.specs.declared.terminal.Terminal.TheVariants as t
 use Rattle.py_parse.specs.Lexemes.{Lexemes, same}

@@ -1,5 +1,5 @@
 -- What the rules make of their parts.
-use Rattle.std.specs.Prelude.{ℕ, ℤ, Bool, ◌+◌, ◌==◌, nat_lt, if◌then◌else◌, ◌^◌, List, [], ◌∷◌, ◌++◌, Option, Some, None}
+use Rattle.std.specs.Prelude.{ℕ, Bool, ◌==◌, nat_lt, if◌then◌else◌, ◌^◌, List, [], ◌∷◌, ◌++◌, Option, Some, None}
 use Rattle.krn_base.specs.declared.place.Loc.{Loc}
 use Rattle.krn_base.specs.declared.operation.BinOp.{BinOp}
 use Rattle.krn_base.specs.declared.operation.BinOp.TheVariants as op
@@ -7,9 +7,6 @@ use Rattle.py_lex.specs.Bytes.{Bytes}
 use Rattle.py_lex.specs.Words.{number_value}
 use Rattle.py_parse.specs.declared.terminal.Terminal.{Terminal}
 use Rattle.py_parse.specs.declared.terminal.Terminal.TheVariants as t
-use Rattle.py_parse.specs.declared.tree.Name.{Name}
-use Rattle.py_parse.specs.declared.tree.Import.{Import}
-use Rattle.py_parse.specs.declared.tree.Function.{Function}
 use Rattle.py_parse.specs.declared.tree.Expr.{Expr, out-Expr}
 use Rattle.py_parse.specs.declared.tree.Expr.TheVariants as e
 use Rattle.py_parse.specs.declared.tree.Expr.TheOpen.{Expr-F}
