@@ -1,5 +1,5 @@
 -- Texts of digits, and what `parse` reads of them.
-use Rattle.std.proofs.Common.{zero, suc, neg_ℤ, ◌≡◌, ℕ, ◌<◌, ◌^◌, Bool, true, false, not, ◌&&◌, ◌||◌, List, [], ◌∷◌, refl, ap, sym, ◌∙◌, Option, Some, None, Result, Ok, Err, ℤ, arith, length, eqb, w64, cond, subst, pos, negsuc, get_or, ◌≢◌, ◌≤◌}
+use Rattle.std.proofs.Common.{zero, suc, neg_ℤ, ◌≡◌, ℕ, ◌<◌, ◌^◌, true, false, not, ◌&&◌, ◌||◌, List, [], ◌∷◌, refl, ap, sym, ◌∙◌, Some, Result, Ok, Err, ℤ, arith, length, eqb, w64, cond, subst, pos, negsuc, get_or, ◌≢◌}
 use mir.Val.{SFits}
 use Rattle.std.proofs.lemmas.Bool.{ltb-true, lt-ltb, and_parts, and_from, and_right, cond-true, cond-false, false_from_ne_true, ne_eqb, not_from_false}
 use Rattle.std.specs.Char.{is_ascii_digit}

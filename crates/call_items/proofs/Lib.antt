@@ -2,5 +2,4 @@ pub mod Commas
 pub mod Digits
 pub mod Lists
 pub mod Parts
-pub mod Row
 pub mod Turns

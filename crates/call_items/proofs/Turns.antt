@@ -1,5 +1,5 @@
 -- One turn of the loops over items.
-use Rattle.std.proofs.Common.{◌≡◌, ℕ, ◌+◌, ◌<◌, Bool, true, false, cond, ◌||◌, List, [], ◌∷◌, ◌++◌, map, refl, ap, sym, ◌∙◌, subst, append_assoc, Option, Some, None, Result, Ok, Err, arith, length, take, drop, get_or, ℤ, add-one, suc, codes, ◌^◌, ◌&&◌}
+use Rattle.std.proofs.Common.{◌≡◌, ℕ, ◌+◌, ◌<◌, Bool, true, false, cond, ◌||◌, List, [], ◌∷◌, ◌++◌, refl, ap, sym, ◌∙◌, subst, append_assoc, Option, Some, None, Result, Ok, Err, length, take, drop, get_or, ℤ, add-one, suc, codes, ◌^◌, ◌&&◌}
 use Rattle.std.proofs.Math.Seq.{drop-cons}
 use Rattle.std.proofs.lemmas.List.{take_more}
 use Rattle.std.proofs.lemmas.List.Folds.{list_any-append}
@@ -18,7 +18,7 @@ use Rattle.call_items.specs.Integers.{elements}
 use Rattle.std.specs.Option.{option_and_then, IfSome}
 use Rattle.std.specs.Bool.{nat_le}
 use Rattle.std.proofs.lemmas.Bool.{cond_both, leb-true, and_parts}
-use Rattle.call_items.specs.Binding.{is_surplus, surplus, surplus_from, is_argument_for}
+use Rattle.call_items.specs.Binding.{is_argument_for}
 use Rattle.call_items.specs.declared.items.Item.{Item}
 use Rattle.call_items.specs.declared.items.Item.TheVariants.{Buffer, Argument}
 

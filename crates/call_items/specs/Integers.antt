@@ -1,6 +1,6 @@
 -- Integers in the words of a call, and rows of them between commas, as lists of bytes. An integer is written as Python prints
 -- one; that it lies within 64 bits, and that `-0` is one, are this project's own.
-use Rattle.std.specs.Prelude.{ℕ, ◌==◌, Bool, true, false, not, ◌&&◌, if◌then◌else◌, List, [], ◌∷◌, drop, Option, Some, None, option_map, ℤ, pos, negsuc, nat_lt, ◌^◌}
+use Rattle.std.specs.Prelude.{ℕ, ◌==◌, Bool, false, not, ◌&&◌, if◌then◌else◌, List, [], ◌∷◌, Option, Some, None, option_map, ℤ, pos, negsuc, nat_lt, ◌^◌}
 use Rattle.std.specs.Char.{is_ascii_digit}
 use Rattle.std.specs.List.{slice_split}
 use Rattle.std.specs.Str.{all_ascii_digits}

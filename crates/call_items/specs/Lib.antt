@@ -2,4 +2,3 @@ pub mod Integers
 pub mod Reading
 pub mod Binding
 pub mod Parameters
-pub mod Row

@@ -5,7 +5,6 @@ ghost use Rattle.std.specs.String.{string_bytes};
 ghost use Rattle.eager_rules.specs.Eager.{shape_of};
 ghost use Rattle.eager_rules.specs.State.{bound_to, ArrayOf};
 ghost use Rattle.call_items.specs.Binding as spec;
-ghost use Rattle.call_items.specs.Row.{step_of};
 ghost use Rattle.call_items.specs.Reading.{IsShort};
 
 use crate::head::{BoundCall, KernelHead};
@@ -109,28 +108,12 @@ fn length_of(arrays: &[Array], number: usize) -> u32
     }
 }
 
-/// A row of one element or none needs no step.
-fn step(length: u32) -> i64
-    ensures { result ≡ step_of length }
-{
-    if length <= 1 { 0 } else { 1 }
-}
-
 /// The whole of a row.
 fn whole(buffer: u32, length: u32) -> View
     requires { length ≤ 2 ^ 22 }
-    ensures places { bound_to (Arg.Array result) ≡ ArrayOf buffer (length ∷ []) (range_with_len 0 length) }
-    ensures length { result.length ≡ length }
-    ensures rank { result.rank ≡ 1 }
+    ensures { bound_to (Arg.Array result) ≡ ArrayOf buffer (length ∷ []) (range_with_len 0 length) }
 {
-    View {
-        buffer,
-        length,
-        offset: 0,
-        rank: 1,
-        extent: [length, 1, 1, 1],
-        stride: [step(length), 0, 0, 0],
-    }
+    View::whole(buffer, &row_shape(length))
 }
 
 /// What a parameter stands for: the whole of its buffer.

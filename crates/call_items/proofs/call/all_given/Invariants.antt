@@ -1,4 +1,4 @@
-use Rattle.std.proofs.Common.{◌≡◌, ℕ, map, take}
+use Rattle.std.proofs.Common.{◌≡◌, map, take}
 use Rattle.eager_rules.specs.State.{bound_to}
 use Rattle.call_items.specs.Binding.{given}
 use Rattle.call_items.proofs.call.all_given.Given as goal

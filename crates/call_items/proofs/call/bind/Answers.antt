@@ -1,4 +1,4 @@
-use Rattle.std.proofs.Common.{◌≡◌, ◌∙◌, ap, sym, Ok}
+use Rattle.std.proofs.Common.{◌∙◌, ap, sym, Ok}
 use Rattle.call_items.specs.Binding.{checked}
 use Rattle.call_items.proofs.call.bind.Goals as goal
 

@@ -1,4 +1,4 @@
-use Rattle.std.proofs.Common.{◌≡◌, ◌∙◌, ap, sym, subst, IfOk, Option, Some, None, Result, Ok, ℕ}
+use Rattle.std.proofs.Common.{◌≡◌, ◌∙◌, ap, sym, subst, IfOk, Some, None, Result, ℕ}
 use Rattle.call_items.specs.Binding.{refusal, fitting, unless, bound_at, answer, BoundMeaning}
 use Rattle.std.specs.Option.{unwrap_or}
 use Rattle.call_items.proofs.call.bind_items.Goals as goal

@@ -1,4 +1,4 @@
-use Rattle.std.proofs.Common.{◌≡◌, ◌∙◌, ap, refl, ◌++◌, [], ◌∷◌}
+use Rattle.std.proofs.Common.{◌∙◌, ap, refl, ◌++◌, [], ◌∷◌}
 use Rattle.call_items.specs.Binding.{name_of, array_of, passed_by}
 use Rattle.call_items.specs.declared.items.Item.TheVariants.{Buffer, Argument}
 use Rattle.call_items.proofs.Parts.{gives_more, gives_none}

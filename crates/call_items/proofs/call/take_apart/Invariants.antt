@@ -1,4 +1,4 @@
-use Rattle.std.proofs.Common.{◌≡◌, ℕ, map, take}
+use Rattle.std.proofs.Common.{◌≡◌}
 use Rattle.call_items.specs.Binding.{buffer_names, arrays, passed}
 use Rattle.call_items.proofs.call.take_apart.Given as goal
 

@@ -1,4 +1,4 @@
-use Rattle.std.proofs.Common.{arith, rules, ◌≡◌, ◌∙◌, sym, ap, subst, Option, Some, None, ℤ, List, [], ◌∷◌, ◌++◌, SFits, w64, to_z, of_z, to_z-of_z}
+use Rattle.std.proofs.Common.{rules, ◌≡◌, ◌∙◌, sym, ap, subst, Some, ℤ, List, SFits, w64, to_z-of_z}
 use Rattle.call_items.specs.Integers.{integers, between_commas}
 use Rattle.call_items.proofs.Commas.{behind, turn_refuses, turn_goes_on, last_refuses, last_gives, not_empty, none_left}
 use Rattle.call_items.proofs.integer.read_elements.Goals as goal

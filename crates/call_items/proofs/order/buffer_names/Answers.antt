@@ -1,4 +1,4 @@
-use Rattle.std.proofs.Common.{◌≡◌, ◌∙◌, ap, sym, ◌<◌, ◌++◌, [], ◌∷◌, length, take, arith}
+use Rattle.std.proofs.Common.{◌∙◌, ap, sym, ◌<◌, ◌++◌, [], ◌∷◌, length, take, arith}
 use Rattle.std.proofs.lemmas.List.Elements.{filter_map-append}
 use Rattle.call_items.specs.Binding.{buffer_names, name_of}
 use Rattle.call_items.proofs.Turns.{taken_here}

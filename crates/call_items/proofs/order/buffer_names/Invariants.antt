@@ -1,4 +1,4 @@
-use Rattle.std.proofs.Common.{◌≡◌, ℕ, map, take}
+use Rattle.std.proofs.Common.{◌≡◌, map, take}
 use Rattle.call_items.specs.Binding.{buffer_names}
 use Rattle.call_items.proofs.order.buffer_names.Given as goal
 

@@ -1,4 +1,4 @@
-use Rattle.std.proofs.Common.{◌≡◌, ◌∙◌, ap, ◌||◌}
+use Rattle.std.proofs.Common.{◌∙◌, ap, ◌||◌}
 use Rattle.std.specs.Str.{bytes_eq}
 use Rattle.call_items.specs.Parameters.{has}
 use Rattle.call_items.proofs.Turns.{has_more}

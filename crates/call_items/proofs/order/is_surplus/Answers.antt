@@ -1,4 +1,4 @@
-use Rattle.std.proofs.Common.{◌≡◌, List, [], ◌∷◌, ◌++◌, sym, subst}
+use Rattle.std.proofs.Common.{[], ◌∷◌, ◌++◌, sym, subst}
 use Rattle.call_items.specs.Parameters.{HasParameters}
 use Rattle.call_items.specs.declared.items.Item.{Item}
 use Rattle.call_items.proofs.Turns.{has_argument, on_ok}

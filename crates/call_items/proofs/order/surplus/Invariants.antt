@@ -1,4 +1,4 @@
-use Rattle.std.proofs.Common.{◌≡◌, ℕ, ◌+◌, take, drop}
+use Rattle.std.proofs.Common.{◌≡◌, ◌+◌, take, drop}
 use Rattle.call_items.specs.Binding.{surplus, surplus_from}
 use Rattle.call_items.specs.Parameters.{HasParameters}
 use Rattle.call_items.proofs.order.surplus.Given as goal
