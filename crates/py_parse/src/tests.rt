@@ -265,8 +265,8 @@ fn reads_modules(rt: HostRuntime) -> Result<(), Fail> {
 }
 
 #[test]
-fn refuses(rt: HostRuntime) -> Result<(), Fail> {
-    let cases: [(&[u8], &str); 110] = [
+fn refuses_parts_and_heads(rt: HostRuntime) -> Result<(), Fail> {
+    let cases: [(&[u8], &str); 31] = [
         (b"x", "Syntax 1:1"),
         (b"x = 1\n", "Syntax 1:1"),
         (b"import", "Syntax 1:7"),
@@ -295,6 +295,20 @@ fn refuses(rt: HostRuntime) -> Result<(), Fail> {
         (b"def f(a):\n  def g(): pass", "Syntax 2:3"),
         (b"def f(a):\n  pass\n   pass", "Syntax 3:4"),
         (b"  def f(): pass", "Syntax 1:3"),
+        (b"class A: pass", "Syntax 1:1"),
+        (b"# pythran export f()\nx", "Syntax 2:1"),
+        (b"def f(a\n", "Syntax 2:1"),
+    ];
+    for (source, wanted) in cases {
+        let found = shown(rt.alloc(), source)?;
+        assert_eq!(rt; found.as_str(), wanted);
+    }
+    Ok(())
+}
+
+#[test]
+fn refuses_lines(rt: HostRuntime) -> Result<(), Fail> {
+    let cases: [(&[u8], &str); 26] = [
         (b"pass", "Syntax 1:1"),
         (b"def f(): pass pass", "Syntax 1:15"),
         (b"def f(): 'a' + b", "Syntax 1:14"),
@@ -315,6 +329,23 @@ fn refuses(rt: HostRuntime) -> Result<(), Fail> {
         (b"def f(): a = lambda: b", "Syntax 1:14"),
         (b"def f(): a = 'b'", "Syntax 1:14"),
         (b"def f(): a = None", "Syntax 1:14"),
+        (b"def f(): return ,", "Syntax 1:17"),
+        (b"def f(): return a b", "Syntax 1:19"),
+        (b"def f(): return a,,", "Syntax 1:19"),
+        (b"def f(): return 'a'", "Syntax 1:17"),
+        (b"def f(): a = 1 2", "Syntax 1:16"),
+        (b"def f(): a = )", "Syntax 1:14"),
+    ];
+    for (source, wanted) in cases {
+        let found = shown(rt.alloc(), source)?;
+        assert_eq!(rt; found.as_str(), wanted);
+    }
+    Ok(())
+}
+
+#[test]
+fn refuses_expressions(rt: HostRuntime) -> Result<(), Fail> {
+    let cases: [(&[u8], &str); 32] = [
         (b"def f(): a = not", "Syntax 1:17"),
         (b"def f(): a = b not in c", "Syntax 1:16"),
         (b"def f(): a = b in c", "Syntax 1:16"),
@@ -346,12 +377,18 @@ fn refuses(rt: HostRuntime) -> Result<(), Fail> {
         (b"def f(): a = b(c for d in e)", "Syntax 1:18"),
         (b"def f(): a = b(c := d)", "Syntax 1:18"),
         (b"def f(): a[b:=c]", "Syntax 1:14"),
-        (b"def f(): return ,", "Syntax 1:17"),
-        (b"def f(): return a b", "Syntax 1:19"),
-        (b"def f(): return a,,", "Syntax 1:19"),
-        (b"def f(): return 'a'", "Syntax 1:17"),
-        (b"def f(): a = 1 2", "Syntax 1:16"),
-        (b"def f(): a = )", "Syntax 1:14"),
+        (b"def f():\n  a = (b\n  c = 1\n", "Syntax 3:3"),
+    ];
+    for (source, wanted) in cases {
+        let found = shown(rt.alloc(), source)?;
+        assert_eq!(rt; found.as_str(), wanted);
+    }
+    Ok(())
+}
+
+#[test]
+fn refuses_blocks(rt: HostRuntime) -> Result<(), Fail> {
+    let cases: [(&[u8], &str); 21] = [
         (b"def f():\n  if: pass", "Syntax 2:5"),
         (b"def f():\n  if a pass", "Syntax 2:8"),
         (b"def f():\n  if a:\n  pass", "Syntax 3:3"),
@@ -379,10 +416,6 @@ fn refuses(rt: HostRuntime) -> Result<(), Fail> {
         (b"def f():\n  break", "Syntax 2:3"),
         (b"def f():\n  True = 1", "Syntax 2:3"),
         (b"def f():\n  a.True", "Syntax 2:5"),
-        (b"class A: pass", "Syntax 1:1"),
-        (b"# pythran export f()\nx", "Syntax 2:1"),
-        (b"def f(a\n", "Syntax 2:1"),
-        (b"def f():\n  a = (b\n  c = 1\n", "Syntax 3:3"),
     ];
     for (source, wanted) in cases {
         let found = shown(rt.alloc(), source)?;
