@@ -9,6 +9,8 @@ use Rattle.krn_base.specs.declared.kind.ParamType.TheVariants.{Scalar, Flat, Str
 use Rattle.view_places.specs.declared.shape.Array.{Array}
 use Rattle.eager_rules.specs.State.{Bound, ArrayOf, bound_to}
 use Rattle.eager_rules.specs.Eager.{shape_of}
+use Rattle.eager_rules.specs.declared.call.Arg.{Arg}
+use Rattle.eager_rules.specs.declared.call.Arg.TheVariants as arg
 use Rattle.call_items.specs.Reading.{read_from}
 use Rattle.call_items.specs.declared.head.BoundCall.{BoundCall}
 use Rattle.call_items.specs.declared.head.KernelHead.{KernelHead}
@@ -156,27 +158,34 @@ kernel_refusal kernels name items = first_answer (kernel_tests kernels name item
 abbrev pub refusal : List KernelHead → List ℕ → List Item → Option ℕ
 refusal kernels name items = first_answer (surplus items ∷ unbound items ∷ kernel_tests kernels name items)
 
--- a bound call: the number of the kernel in the list, the buffers' names and what they hold in word order, and what the
--- kernel's parameters stand for
+-- a bound call: the number of the kernel in the list, the buffers' names and what they hold in word order, what the kernel's
+-- parameters stand for, and how many words each view says its buffer has
 pub record BoundMeaning : Type 0 where
   pub kernel : ℕ
   pub names : List (List ℕ)
   pub arrays : List Array
   pub args : List Bound
+  pub lengths : List ℕ
+
+-- how many words the buffer with this number has
+abbrev pub words_in : List Array → ℕ → ℕ
+words_in arrays number = length (slice_index_or (map (λ a. a.words) arrays) number [])
 
 -- the whole of the buffer with this number
 abbrev pub whole : List Array → ℕ → Bound
-whole arrays number =
-    let n = length (slice_index_or (map (λ a. a.words) arrays) number []) in ArrayOf number (n ∷ []) (range_with_len 0 n)
+whole arrays number = ArrayOf number (words_in arrays number ∷ []) (range_with_len 0 (words_in arrays number))
 
 -- the number of the buffer that is passed to a parameter
 abbrev pub buffer_for : List (List ℕ × List ℕ) → List (List ℕ) → List ℕ → Option ℕ
 buffer_for passed names parameter =
     option_and_then (λ argument. position (bytes_eq argument.1) names) (find (λ argument. bytes_eq argument.0 parameter) passed)
 
--- what a parameter stands for
+-- what a parameter stands for, and how many words its buffer has
 abbrev pub given : List (List ℕ × List ℕ) → List (List ℕ) → List Array → List ℕ × ParamType → Bound
 given passed names buffers param = whole buffers (unwrap_or (buffer_for passed names param.0) 0)
+
+abbrev pub given_length : List (List ℕ × List ℕ) → List (List ℕ) → List Array → List ℕ × ParamType → ℕ
+given_length passed names buffers param = words_in buffers (unwrap_or (buffer_for passed names param.0) 0)
 
 abbrev pub params_at : List KernelHead → ℕ → List (List ℕ × ParamType)
 params_at kernels k = slice_index_or (map (λ kernel. kernel.params) kernels) k []
@@ -187,6 +196,7 @@ bound_at kernels items k = record {
   names = buffer_names items;
   arrays = arrays items;
   args = map (given (passed items) (buffer_names items) (arrays items)) (params_at kernels k);
+  lengths = map (given_length (passed items) (buffer_names items) (arrays items)) (params_at kernels k);
 }
 
 abbrev pub unless : Option ℕ → BoundMeaning → Result BoundMeaning ℕ
@@ -208,6 +218,11 @@ checked kernels name (Ok items) =
 abbrev pub bind : List KernelHead → List ℕ → List (List ℕ) → Result BoundMeaning ℕ
 bind kernels name texts = checked kernels name (read_from 1 texts)
 
+-- how many words the buffer of an argument has; a word has none
+abbrev pub length_of : Arg → ℕ
+length_of (arg.Word z) = 0
+length_of (arg.Array v) = v.length
+
 -- what a bound call stands for
 abbrev pub meaning : BoundCall → BoundMeaning
 meaning bound = record {
@@ -215,6 +230,7 @@ meaning bound = record {
   names = bound.names;
   arrays = bound.call.buffers;
   args = map bound_to bound.call.args;
+  lengths = map length_of bound.call.args;
 }
 
 abbrev pub answer : Result BoundCall ℕ → Result BoundMeaning ℕ

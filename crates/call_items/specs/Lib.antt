@@ -1,4 +1,5 @@
 pub mod Integers
 pub mod Reading
 pub mod Binding
+pub mod Fitting
 pub mod Parameters

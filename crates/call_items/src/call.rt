@@ -1,10 +1,11 @@
-ghost use Rattle.std.specs.Prelude.{◌≡◌, ◌<◌, ◌≤◌, ◌^◌, ◌∷◌, [], IfOk, length, map, option_map, slice_index_or, bytes_eq, Ok, None};
+ghost use Rattle.std.specs.Prelude.{◌≡◌, ◌<◌, ◌≤◌, ◌^◌, ◌∷◌, [], IfOk, length, map, option_map, bytes_eq, Ok, None};
 ghost use Rattle.std.specs.List.{All, find, position, range_with_len};
 ghost use Rattle.std.specs.Option.{unwrap_or};
 ghost use Rattle.std.specs.String.{string_bytes};
 ghost use Rattle.eager_rules.specs.Eager.{shape_of};
 ghost use Rattle.eager_rules.specs.State.{bound_to, ArrayOf};
 ghost use Rattle.call_items.specs.Binding as spec;
+ghost use Rattle.call_items.specs.Fitting.{IsFitting};
 ghost use Rattle.call_items.specs.Reading.{IsShort};
 
 use crate::head::{BoundCall, KernelHead};
@@ -97,9 +98,9 @@ fn buffer_for(parts: &Parts, parameter: &[u8]) -> Option<usize>
     }
 }
 
-fn length_of(arrays: &[Array], number: usize) -> u32
+fn words_in(arrays: &[Array], number: usize) -> u32
     requires { All spec.IsSmall arrays.now }
-    ensures length { result ≡ length (slice_index_or (map (λ a. a.words) arrays.now) number []) }
+    ensures length { result ≡ spec.words_in arrays.now number }
     ensures small { result ≤ 2 ^ 22 }
 {
     match arrays.get(number) {
@@ -111,7 +112,8 @@ fn length_of(arrays: &[Array], number: usize) -> u32
 /// The whole of a row.
 fn whole(buffer: u32, length: u32) -> View
     requires { length ≤ 2 ^ 22 }
-    ensures { bound_to (Arg.Array result) ≡ ArrayOf buffer (length ∷ []) (range_with_len 0 length) }
+    ensures bound { bound_to (Arg.Array result) ≡ ArrayOf buffer (length ∷ []) (range_with_len 0 length) }
+    ensures length { result.length ≡ length }
 {
     View::whole(buffer, &row_shape(length))
 }
@@ -120,10 +122,11 @@ fn whole(buffer: u32, length: u32) -> View
 fn given(parts: &Parts, param: &(Text, ParamType)) -> Arg
     requires few { length parts.now.names < 2 ^ 31 }
     requires small { All spec.IsSmall parts.now.arrays }
-    ensures { bound_to result ≡ spec.given parts.now.passed parts.now.names parts.now.arrays param.now }
+    ensures bound { bound_to result ≡ spec.given parts.now.passed parts.now.names parts.now.arrays param.now }
+    ensures length { spec.length_of result ≡ spec.given_length parts.now.passed parts.now.names parts.now.arrays param.now }
 {
     let number = buffer_for(parts, param.0.as_slice()).unwrap_or(0);
-    let length = length_of(parts.arrays.as_slice(), number);
+    let length = words_in(parts.arrays.as_slice(), number);
     Arg::Array(whole(number as u32, length))
 }
 
@@ -134,7 +137,8 @@ fn all_given(
 ) -> Result<Seq<Arg>, AllocError>
     requires few { length parts.now.names < 2 ^ 31 }
     requires small { All spec.IsSmall parts.now.arrays }
-    ensures { IfOk result (λ args. map bound_to args ≡ map (spec.given parts.now.passed parts.now.names parts.now.arrays) params.now) }
+    ensures bound { IfOk result (λ args. map bound_to args ≡ map (spec.given parts.now.passed parts.now.names parts.now.arrays) params.now) }
+    ensures lengths { IfOk result (λ args. map spec.length_of args ≡ map (spec.given_length parts.now.passed parts.now.names parts.now.arrays) params.now) }
 {
     let mut args = Vec::new(alloc);
     for param in params {
@@ -207,17 +211,8 @@ fn bind_items(
     }
 }
 
-/// Binds the words behind a module and a kernel to a call of the first kernel of that name that they fit.
-///
-/// The inner error is the number of the item that is refused, from 1, or 0 where the kernel itself is at fault. Each test goes
-/// over all items before the next one begins: an item is misspelled; it is the second for its buffer or parameter, or gives the
-/// 17th buffer; it passes a buffer that isn't there; the kernel is unknown (0); an item is for a parameter that the first
-/// kernel of the name doesn't have; a parameter of it has no item (0); no kernel of the name fits (0).
-///
-/// It takes time linear in the words, up to the logarithm of the number of items, as long as kernels have few parameters:
-/// names are looked up one after another among buffers, of which there are at most 16, and among parameters. A buffer's words
-/// are held once.
-pub fn bind(
+/// The call of these words, or the number of the item that is refused.
+fn bind_words(
     alloc: Global,
     kernels: &[KernelHead],
     kernel: &str,
@@ -231,4 +226,30 @@ pub fn bind(
         Ok(items) => Ok(bind_items(alloc, kernels, kernel.as_bytes(), items)?),
         Err(number) => Ok(Err(number)),
     }
+}
+
+/// Binds the words behind a module and a kernel to a call of the first kernel of that name that they fit.
+///
+/// The inner error is the number of the item that is refused, from 1, or 0 where the kernel itself is at fault. Each test goes
+/// over all items before the next one begins: an item is misspelled; it is the second for its buffer or parameter, or gives the
+/// 17th buffer; it passes a buffer that isn't there; the kernel is unknown (0); an item is for a parameter that the first
+/// kernel of the name doesn't have; a parameter of it has no item (0); no kernel of the name fits (0). A call that binds fits
+/// its kernel.
+///
+/// It takes time linear in the words, up to the logarithm of the number of items, as long as kernels have few parameters:
+/// names are looked up one after another among buffers, of which there are at most 16, and among parameters. A buffer's words
+/// are held once.
+#[tactic(auto, using(crate::proofs::Fitting::bound_fits))]
+pub fn bind(
+    alloc: Global,
+    kernels: &[KernelHead],
+    kernel: &str,
+    items: &[String],
+) -> Result<Result<BoundCall, u32>, NoMemory>
+    requires kernels { length kernels.now < 2 ^ 31 }
+    requires items { length items.now < 2 ^ 31 }
+    ensures binds { IfOk result (λ bound. spec.answer bound ≡ spec.bind kernels.now kernel.now (map string_bytes items.now)) }
+    ensures fits { IfOk result (λ bound. IfOk bound (IsFitting kernels.now kernel.now)) }
+{
+    bind_words(alloc, kernels, kernel, items)
 }

@@ -1,6 +1,6 @@
 -- Eager evaluation: one whole-array operation after another. An element operation reads its operands as whole lists, spread to
 -- their broadcast shape, and makes a new buffer of the results. The rules are those of the NumPy reference; a word wraps at 64 bits.
-use Rattle.std.specs.Prelude.{ℕ, zero, ◌-◌, List, [], ◌∷◌, ◌++◌, map, length, take, replicate, slice_index_or, slice_set, Option, Some, None, Result, Ok, Err, ℤ, pos, Bool, true, false}
+use Rattle.std.specs.Prelude.{ℕ, zero, ◌-◌, List, [], ◌∷◌, ◌++◌, map, length, take, replicate, slice_set, Some, None, Result, Ok, Err, ℤ, pos, true, false}
 use Rattle.std.specs.List.{zip, range_with_len, flat_map}
 use Rattle.krn_base.specs.Numbers.{element_result, unary_result}
 use Rattle.krn_base.specs.declared.fault.Fault.{Fault}

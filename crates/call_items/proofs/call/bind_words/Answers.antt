@@ -1,6 +1,6 @@
 use Rattle.std.proofs.Common.{◌∙◌, ap, sym, Ok}
 use Rattle.call_items.specs.Binding.{checked}
-use Rattle.call_items.proofs.call.bind.Goals as goal
+use Rattle.call_items.proofs.call.bind_words.Goals as goal
 
 pub returns-in_ok-bind_items-in-Ok : goal.returns-in_ok-bind_items-in-Ok
 returns-in_ok-bind_items-in-Ok c =
