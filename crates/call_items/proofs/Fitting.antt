@@ -1,6 +1,6 @@
 -- A call that binds fits its kernel: what the tests on the items find, and what the call is then made of.
-use Rattle.std.proofs.Common.{◌≡◌, ℕ, zero, suc, ◌+◌, ◌<◌, Bool, true, false, not, ◌||◌, cond, List, [], ◌∷◌, map, length, refl, ap, sym, ◌∙◌, subst, arith, Option, Some, None, Result, Ok, Err, get_or}
-use Rattle.std.proofs.lemmas.Bool.{cond-true, lt-ltb, false_from_ne_true, or_parts, and_parts, not-false, not-true, eqb-true}
+use Rattle.std.proofs.Common.{◌≡◌, ℕ, zero, suc, ◌<◌, true, false, not, ◌||◌, cond, List, [], ◌∷◌, map, length, refl, ap, sym, ◌∙◌, subst, arith, Option, Some, None, Result, Ok, Err, get_or}
+use Rattle.std.proofs.lemmas.Bool.{or_parts, and_parts, not-false, not-true, eqb-true}
 use Rattle.std.proofs.lemmas.List.{get_or-map}
 use Rattle.std.proofs.lemmas.List.FromFn.{length-range_with_len}
 use Rattle.std.proofs.lemmas.List.Quantifiers.{position-Some}
@@ -28,24 +28,8 @@ use Rattle.call_items.specs.declared.head.BoundCall.{BoundCall}
 use Rattle.call_items.specs.declared.head.KernelHead.{KernelHead}
 use Rattle.call_items.specs.declared.items.Item.{Item}
 use Rattle.call_items.specs.declared.items.Item.TheVariants.{Buffer, Argument}
+use Rattle.call_items.proofs.Lists.{within, has_place, none_passes}
 use Rattle.call_items.proofs.Parts.{some_fits}
-
--- ---- places of what passes a test
-
-within : {X : Type 0} (p : X → Bool) (xs : List X) → list_any p xs ≡ true → position_or_len p xs < length xs
-within p [] e = absurd cc
-within p (x ∷ xs) e =
-    (elim (p x) as (λ b. (b || list_any p xs) ≡ true → cond (not b) (1 + position_or_len p xs) 0 < length (x ∷ xs)) [
-      | true ↦ λ e'. omega arith
-      | false ↦ λ e'. omega (arith, within p xs e')
-    ]) e
-
-has_place : {X : Type 0} (p : X → Bool) (xs : List X) → list_any p xs ≡ true → position p xs ≡ Some (position_or_len p xs)
-has_place p xs e = cond-true _ _ _ (lt-ltb (position_or_len p xs) (length xs) (within p xs e))
-
-none_passes : {X : Type 0} (p : X → Bool) (xs : List X) → position p xs ≡ None → list_any p xs ≡ false
-none_passes p xs e =
-    false_from_ne_true _ (λ t. let k : position p xs ≡ Some (position_or_len p xs) = has_place p xs t in absurd cc)
 
 -- ---- what is passed to a parameter
 
