@@ -1,5 +1,6 @@
 -- What is left of a quotient and its rest.
-use Rattle.std.proofs.Common.{◌≡◌, ◌≢◌, ℤ, zero, suc, pos, negsuc, ◌+ℤ◌, ◌*ℤ◌, false, refl, ap, ◌∙◌, arith, if◌then◌else◌}
+use Rattle.std.proofs.Common.{◌≡◌, ◌≢◌, ℤ, zero, suc, pos, negsuc, ◌+ℤ◌, ◌*ℤ◌, false, refl, ap, ◌∙◌, arith}
+use Rattle.std.proofs.Common.{if◌then◌else◌}
 use Rattle.std.specs.Int.{w64}
 use Rattle.std.proofs.lemmas.Int.{ints, int_wrap_fits, int_wrap-add_left, int_wrap-add_right, int_wrap-mul_left}
 use Rattle.krn_base.specs.Numbers.{wrap, IsWord, floor_div, floor_mod, is_zero, or_zero}

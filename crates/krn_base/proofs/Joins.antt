@@ -1,7 +1,10 @@
 -- The laws of a reduction by its name.
 use Rattle.krn_base.specs.Numbers.{join_result, unit_of}
 use Rattle.krn_base.specs.Reduce.{Associates, Exchanges, HasUnit}
-use Rattle.krn_base.specs.ReduceLaws.{sum_associates, sum_exchanges, sum_unit, prod_associates, prod_exchanges, prod_unit, and_associates, and_exchanges, and_unit, or_associates, or_exchanges, or_unit, xor_associates, xor_exchanges, xor_unit, max_associates, max_exchanges, max_unit, min_associates, min_exchanges, min_unit}
+use Rattle.krn_base.specs.ReduceLaws.{sum_associates, sum_exchanges, sum_unit, prod_associates, prod_exchanges}
+use Rattle.krn_base.specs.ReduceLaws.{prod_unit, and_associates, and_exchanges, and_unit, or_associates, or_exchanges}
+use Rattle.krn_base.specs.ReduceLaws.{or_unit, xor_associates, xor_exchanges, xor_unit, max_associates, max_exchanges}
+use Rattle.krn_base.specs.ReduceLaws.{max_unit, min_associates, min_exchanges, min_unit}
 use Rattle.krn_base.specs.declared.operation.Join.{Join}
 use Rattle.krn_base.specs.declared.operation.Join.TheVariants.{Sum, Prod, And, Or, Xor, Max, Min}
 

@@ -1,5 +1,7 @@
 -- Operations on words give words, and what is left of a number lies a multiple of 2^64 away.
-use Rattle.std.proofs.Common.{◌≡◌, ℕ, ℤ, suc, pos, negsuc, ◌+◌, ◌-◌, ◌*◌, ◌/◌, ◌%◌, ◌^◌, ◌<◌, ◌≤◌, ◌+ℤ◌, ◌-ℤ◌, ◌*ℤ◌, neg_ℤ, Bool, true, false, int_lt, int_le, nat_lt, not, ap, subst, ◌∙◌, arith, ◌⊎◌, inl, inr, if◌then◌else◌, unsigned_abs}
+use Rattle.std.proofs.Common.{◌≡◌, ℕ, ℤ, suc, pos, negsuc, ◌+◌, ◌-◌, ◌*◌, ◌/◌, ◌%◌, ◌^◌, ◌<◌, ◌≤◌, ◌+ℤ◌, ◌-ℤ◌, ◌*ℤ◌}
+use Rattle.std.proofs.Common.{neg_ℤ, Bool, true, false, int_lt, int_le, nat_lt, not, ap, subst, ◌∙◌, arith, ◌⊎◌, inl}
+use Rattle.std.proofs.Common.{inr, if◌then◌else◌, unsigned_abs}
 use Rattle.std.specs.Int.{w64, int_wrap, cast_signed}
 use Rattle.std.specs.Ordering.{int_eq}
 use Rattle.std.proofs.lemmas.Int.{ints, SFits-int_wrap, to_z_pos}
@@ -7,10 +9,13 @@ use Rattle.std.proofs.lemmas.Bool.{cases_lt}
 use Rattle.std.proofs.lemmas.Nat.{div-add-mod', mod_below}
 use Rattle.std.proofs.Math.Facts.{to_z-neg}
 use Rattle.krn_base.proofs.Wrapping.{shr-floor_div, fits-shr}
-use Rattle.krn_base.specs.ReduceLaws.{and_in_range, or_in_range, xor_in_range, max_in_range, min_in_range, sum_in_range, prod_in_range}
-use Rattle.krn_base.specs.Numbers.{wrap, IsWord, floor_div, floor_mod, is_zero, power, truth, sign_fill, element_result, unary_result, join_result}
+use Rattle.krn_base.specs.ReduceLaws.{and_in_range, or_in_range, xor_in_range, max_in_range, min_in_range, sum_in_range}
+use Rattle.krn_base.specs.ReduceLaws.{prod_in_range}
+use Rattle.krn_base.specs.Numbers.{wrap, IsWord, floor_div, floor_mod, is_zero, power, truth, sign_fill, element_result}
+use Rattle.krn_base.specs.Numbers.{unary_result, join_result}
 use Rattle.krn_base.specs.declared.operation.BinOp.{BinOp}
-use Rattle.krn_base.specs.declared.operation.BinOp.TheVariants.{Add, Sub, Mul, FloorDiv, Mod, Shl, Shr, And, Or, Xor, Min, Max, Eq, Ne, Lt, Le, Gt, Ge}
+use Rattle.krn_base.specs.declared.operation.BinOp.TheVariants.{Add, Sub, Mul, FloorDiv, Mod, Shl, Shr, And, Or, Xor}
+use Rattle.krn_base.specs.declared.operation.BinOp.TheVariants.{Min, Max, Eq, Ne, Lt, Le, Gt, Ge}
 use Rattle.krn_base.specs.declared.operation.UnOp.{UnOp}
 use Rattle.krn_base.specs.declared.operation.UnOp.TheVariants.{Neg, Inv, Flip, Abs, Test, Copy, Pow}
 use Rattle.krn_base.specs.declared.operation.Join.{Join}
@@ -36,13 +41,17 @@ pub element_word : (op : BinOp) (a b : ℤ) → IsWord a → IsWord b → IsWord
 element_word Add a b f g = SFits-int_wrap w64 (a +ℤ b)
 element_word Sub a b f g = SFits-int_wrap w64 (a -ℤ b)
 element_word Mul a b f g = SFits-int_wrap w64 (a *ℤ b)
-element_word FloorDiv a b f g = either (is_zero b) (pos 0) (wrap (floor_div a b)) (small 0 (omega arith)) (SFits-int_wrap w64 (floor_div a b))
-element_word Mod a b f g = either (is_zero b) (pos 0) (wrap (floor_mod a b)) (small 0 (omega arith)) (SFits-int_wrap w64 (floor_mod a b))
+element_word FloorDiv a b f g = either (is_zero b) (pos 0) (wrap (floor_div a b)) (small 0 (omega arith))
+    (SFits-int_wrap w64 (floor_div a b))
+element_word Mod a b f g = either (is_zero b) (pos 0) (wrap (floor_mod a b)) (small 0 (omega arith))
+    (SFits-int_wrap w64 (floor_mod a b))
 element_word Shl a (pos k) f g =
-    either (nat_lt k 64) (wrap (a *ℤ pos (2 ^ k))) (pos 0) (SFits-int_wrap w64 (a *ℤ pos (2 ^ k))) (small 0 (omega arith))
+    either (nat_lt k 64) (wrap (a *ℤ pos (2 ^ k))) (pos 0) (SFits-int_wrap w64 (a *ℤ pos (2 ^ k)))
+    (small 0 (omega arith))
 element_word Shl a (negsuc k) f g = small 0 (omega arith)
 element_word Shr a (pos k) f g =
-    either (nat_lt k 64) (floor_div a (pos (2 ^ k))) (sign_fill a) (subst IsWord (shr-floor_div a k) (fits-shr a k f)) (fill_word a)
+    either (nat_lt k 64) (floor_div a (pos (2 ^ k))) (sign_fill a) (subst IsWord (shr-floor_div a k) (fits-shr a k f))
+    (fill_word a)
 element_word Shr a (negsuc k) f g = fill_word a
 element_word And a b f g = and_in_range a b f g
 element_word Or a b f g = or_in_range a b f g
@@ -83,8 +92,11 @@ word_below n h = by (cases_lt n (2 ^ 63))
     by (inl l) = (0, ap (λ z. z +ℤ pos 0) (to_z_pos w64 n l) ∙ omega (arith, ints))
     by (inr g) =
         let k : ℕ = 2 ^ 64 - suc n in
-        let same : n ≡ 2 ^ 64 - suc k = omega arith in
-        (1, ap (λ z. z +ℤ pos (2 ^ 64)) (ap (cast_signed w64) same ∙ to_z-neg w64 k (omega arith)) ∙ omega (arith, ints))
+        let same : n ≡ 2 ^ 64 - suc k = omega arith in (
+          1,
+          ap (λ z. z +ℤ pos (2 ^ 64)) (ap (cast_signed w64) same ∙ to_z-neg w64 k (omega arith)) ∙
+              omega (arith, ints),
+        )
 
 pub wrap-multiple : (n : ℤ) → (k : ℤ) × (n ≡ wrap n +ℤ (k *ℤ pos (2 ^ 64)))
 unfolding int_wrap

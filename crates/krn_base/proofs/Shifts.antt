@@ -1,5 +1,6 @@
 -- A count of 64 or more leaves what the exact product and quotient leave.
-use Rattle.std.proofs.Common.{◌≡◌, ℕ, ℤ, pos, negsuc, ◌+◌, ◌-◌, ◌/◌, ◌^◌, ◌<◌, ◌≤◌, ◌*ℤ◌, Bool, true, false, nat_lt, refl, sym, ap, ◌∙◌, arith, if◌then◌else◌}
+use Rattle.std.proofs.Common.{◌≡◌, ℕ, ℤ, pos, negsuc, ◌+◌, ◌-◌, ◌/◌, ◌^◌, ◌<◌, ◌≤◌, ◌*ℤ◌, Bool, true, false, nat_lt}
+use Rattle.std.proofs.Common.{refl, sym, ap, ◌∙◌, arith, if◌then◌else◌}
 use Rattle.std.specs.Int.{w64, int_wrap}
 use Rattle.std.proofs.lemmas.Int.{int_wrap-mul_right}
 use Rattle.std.proofs.lemmas.Nat.{pow-add}
@@ -49,6 +50,7 @@ left_shift a k = by (nat_lt k 64) refl
 pub right_shift : (a : ℤ) (k : ℕ) → IsWord a → shift_right a (pos k) ≡ floor_div a (pos (2 ^ k))
 right_shift a k f = by (nat_lt k 64) refl
   where
-    by : (t : Bool) → nat_lt k 64 ≡ t → (if t then floor_div a (pos (2 ^ k)) else sign_fill a) ≡ floor_div a (pos (2 ^ k))
+    by : (t : Bool) → nat_lt k 64 ≡ t →
+        (if t then floor_div a (pos (2 ^ k)) else sign_fill a) ≡ floor_div a (pos (2 ^ k))
     by true e = refl
     by false e = sym (far_right a k f (at_least k e))

@@ -1,8 +1,11 @@
 -- Words and the numbers that they are left of.
-use Rattle.std.proofs.Common.{◌≡◌, ℕ, ℤ, zero, suc, pos, negsuc, ◌+◌, ◌*◌, ◌/◌, ◌%◌, ◌^◌, ◌<◌, ◌≤◌, ◌*ℤ◌, neg_ℤ, refl, sym, ap, ◌∙◌, arith, min, ◌⊎◌, inl, inr, int_lt, unsigned_abs, false, true≢false}
+use Rattle.std.proofs.Common.{◌≡◌, ℕ, ℤ, zero, suc, pos, negsuc, ◌+◌, ◌*◌, ◌/◌, ◌%◌, ◌^◌, ◌<◌, ◌≤◌, ◌*ℤ◌, neg_ℤ, refl}
+use Rattle.std.proofs.Common.{sym, ap, ◌∙◌, arith, min, ◌⊎◌, inl, inr, int_lt, unsigned_abs, false, true≢false}
 use Rattle.std.specs.Int.{w64, int_wrap, cast_signed, cast_unsigned, int_shl, int_shr, div_ceil}
-use Rattle.std.proofs.lemmas.Int.{ints, int_wrap_fits, to_z-of_z, wrapping_mul-bits, int_wrap-mul_left, int_wrap-mul_right, int_wrap-sub_right}
-use Rattle.std.proofs.lemmas.Nat.{mul-mod_first, mul-mod_second, pow_pos, mod_below, div-mul-add, mod-mul-add, div-add-mod', shr_le}
+use Rattle.std.proofs.lemmas.Int.{ints, int_wrap_fits, to_z-of_z, wrapping_mul-bits, int_wrap-mul_left}
+use Rattle.std.proofs.lemmas.Int.{int_wrap-mul_right, int_wrap-sub_right}
+use Rattle.std.proofs.lemmas.Nat.{mul-mod_first, mul-mod_second, pow_pos, mod_below, div-mul-add, mod-mul-add}
+use Rattle.std.proofs.lemmas.Nat.{div-add-mod', shr_le}
 use Rattle.std.proofs.lemmas.Bool.{cases_lt}
 use Rattle.std.proofs.Math.Nat.{mod-eq_of_lt, pow-suc, pow-zero}
 use Rattle.std.proofs.Math.Facts.{Fits-of_z}
@@ -28,11 +31,13 @@ wrap-neg z =
 -- a power is wrapped at each step, or at the end
 pub wrap-power : (a : ℤ) (k : ℕ) → IsWord a → cast_signed w64 ((cast_unsigned w64 a ^ k) % 2 ^ 64) ≡ wrap (power a k)
 unfolding power
-wrap-power a zero f = ap (λ n. cast_signed w64 (n % 2 ^ 64)) (pow-zero (cast_unsigned w64 a)) ∙ sym (int_wrap_fits w64 (pos 1) (record { sfits = omega arith }))
+wrap-power a zero f = ap (λ n. cast_signed w64 (n % 2 ^ 64)) (pow-zero (cast_unsigned w64 a)) ∙
+    sym (int_wrap_fits w64 (pos 1) (record { sfits = omega arith }))
 wrap-power a (suc k) f =
     let u = cast_unsigned w64 a in
     let small : u < 2 ^ 64 = (Fits-of_z f).fits in
-    let e : u ^ suc k % 2 ^ 64 ≡ (u ^ k % 2 ^ 64 * u) % 2 ^ 64 = ap (λ n. n % 2 ^ 64) (pow-suc u k) ∙ sym (mul-mod_first (u ^ k) u (2 ^ 64)) in
+    let e : u ^ suc k % 2 ^ 64 ≡ (u ^ k % 2 ^ 64 * u) % 2 ^ 64 = ap (λ n. n % 2 ^ 64) (pow-suc u k) ∙
+    sym (mul-mod_first (u ^ k) u (2 ^ 64)) in
     ap (cast_signed w64) e ∙ wrapping_mul-bits w64 (u ^ k % 2 ^ 64) u (mod_below (u ^ k) (2 ^ 64) (omega arith)) small
     ∙ (λ i. wrap (wrap-power a k f i *ℤ to_z-of_z w64 a f i)) ∙ int_wrap-mul_left w64 (power a k) a
 
@@ -61,7 +66,8 @@ pub not_negative : (n : ℕ) → int_lt (pos n) (pos 0) ≡ false
 not_negative n = grind (arith, ints)
 
 -- the sizes' quotient, rounded up and with the other sign, is the floor where the signs differ
-pub floor_div-apart : (a b : ℤ) → beq (int_lt a (pos 0)) (int_lt b (pos 0)) ≡ false → neg_ℤ (pos (div_ceil (unsigned_abs a) (unsigned_abs b))) ≡ floor_div a b
+pub floor_div-apart : (a b : ℤ) → beq (int_lt a (pos 0)) (int_lt b (pos 0)) ≡ false →
+    neg_ℤ (pos (div_ceil (unsigned_abs a) (unsigned_abs b))) ≡ floor_div a b
 floor_div-apart (pos a) (pos b) h = absurd (true≢false (sym (λ i. beq (not_negative a i) (not_negative b i)) ∙ h))
 floor_div-apart (pos a) (negsuc b) h = refl
 floor_div-apart (negsuc a) (pos b) h = refl

@@ -1,13 +1,17 @@
 -- The operations on words, on exact numbers. Division, rest, sign of a rest and `>>` are Python's; two's complement is
--- what Python and NumPy give `&`, `|`, `^` and `~`. That sums wrap at 64 bits is NumPy's rule for int64; that scalars wrap
+-- what Python and NumPy give `&`, `|`, `^` and `~`. That sums wrap at 64 bits is NumPy's rule for int64; that scalars
+-- wrap
 -- too, and what an operation gives at a count outside 0 to 63, are this project's own.
-use Rattle.std.specs.Prelude.{◌≡◌, ◌⊎◌, ◌≤ℤ◌, ◌<ℤ◌, ℕ, zero, suc, ◌-◌, ◌/◌, ◌≤◌, ◌^◌, Bool, not, nat_lt, if◌then◌else◌, Option, Some, None, Result, Ok, Err, ℤ, pos, negsuc, ◌+ℤ◌, ◌-ℤ◌, ◌*ℤ◌, neg_ℤ, unsigned_abs, int_lt, int_le, FitsSigned}
+use Rattle.std.specs.Prelude.{◌≡◌, ◌⊎◌, ◌≤ℤ◌, ◌<ℤ◌, ℕ, zero, suc, ◌-◌, ◌/◌, ◌≤◌, ◌^◌, Bool, not, nat_lt, if◌then◌else◌}
+use Rattle.std.specs.Prelude.{Option, Some, None, Result, Ok, Err, ℤ, pos, negsuc, ◌+ℤ◌, ◌-ℤ◌, ◌*ℤ◌, neg_ℤ}
+use Rattle.std.specs.Prelude.{unsigned_abs, int_lt, int_le, FitsSigned}
 use Rattle.std.specs.Int.{w64, int_wrap, int_min, int_max, int_bit_and, int_bit_or, int_bit_xor, div_ceil}
 use Rattle.std.specs.Ordering.{int_eq}
 use Rattle.krn_base.specs.declared.fault.Fault.{Fault}
 use Rattle.krn_base.specs.declared.fault.Fault.TheVariants.{ValueError, ZeroDivisionError}
 use Rattle.krn_base.specs.declared.operation.BinOp.{BinOp}
-use Rattle.krn_base.specs.declared.operation.BinOp.TheVariants.{Add, Sub, Mul, FloorDiv, Mod, Shl, Shr, And, Or, Xor, Min, Max, Eq, Ne, Lt, Le, Gt, Ge}
+use Rattle.krn_base.specs.declared.operation.BinOp.TheVariants.{Add, Sub, Mul, FloorDiv, Mod, Shl, Shr, And, Or, Xor}
+use Rattle.krn_base.specs.declared.operation.BinOp.TheVariants.{Min, Max, Eq, Ne, Lt, Le, Gt, Ge}
 use Rattle.krn_base.specs.declared.operation.UnOp.{UnOp}
 use Rattle.krn_base.specs.declared.operation.UnOp.TheVariants.{Neg, Inv, Flip, Abs, Test, Copy, Pow}
 use Rattle.krn_base.specs.declared.operation.Join.{Join}

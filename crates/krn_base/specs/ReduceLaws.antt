@@ -1,7 +1,9 @@
 -- The laws of the seven reductions.
-use Rattle.std.proofs.Common.{◌≡◌, ℕ, ℤ, pos, negsuc, ◌-◌, ◌*◌, ◌^◌, ◌<◌, ◌+ℤ◌, ◌*ℤ◌, refl, sym, ap, ◌∙◌, arith, bit_and, bit_or, bit_xor}
+use Rattle.std.proofs.Common.{◌≡◌, ℕ, ℤ, pos, negsuc, ◌-◌, ◌*◌, ◌^◌, ◌<◌, ◌+ℤ◌, ◌*ℤ◌, refl, sym, ap, ◌∙◌, arith}
+use Rattle.std.proofs.Common.{bit_and, bit_or, bit_xor}
 use Rattle.std.specs.Int.{w64, cast_signed, cast_unsigned}
-use Rattle.std.proofs.lemmas.Int.{ints, clamps, of_z-to_z, to_z-of_z, int_wrap_fits, SFits-int_wrap, int_wrap-add_left, int_wrap-add_right, int_wrap-mul_left, int_wrap-mul_right}
+use Rattle.std.proofs.lemmas.Int.{ints, clamps, of_z-to_z, to_z-of_z, int_wrap_fits, SFits-int_wrap, int_wrap-add_left}
+use Rattle.std.proofs.lemmas.Int.{int_wrap-add_right, int_wrap-mul_left, int_wrap-mul_right}
 use Rattle.std.proofs.lemmas.Nat.{or_lt, xor_lt, and_le_l, and_comm, or_comm, xor_comm, and_assoc, and_mask}
 use Rattle.std.specs.Int.Bits.{xor_assoc}
 use Rattle.std.proofs.Math.IntN.{+ℤ_assoc, +ℤ_comm, +ℤ_idl, *ℤ_comm, *ℤ-one}
@@ -66,7 +68,8 @@ by_bits op a b = cast_signed w64 (op (cast_unsigned w64 a) (cast_unsigned w64 b)
 
 module _ (op : ℕ → ℕ → ℕ) (below : (m n : ℕ) → m < 2 ^ 64 → n < 2 ^ 64 → op m n < 2 ^ 64) where
   bits_in_range : InRange (by_bits op)
-  bits_in_range a b f g = word_of_bits (op (cast_unsigned w64 a) (cast_unsigned w64 b)) (below _ _ (bits_fit a f) (bits_fit b g))
+  bits_in_range a b f g = word_of_bits (op (cast_unsigned w64 a) (cast_unsigned w64 b))
+      (below _ _ (bits_fit a f) (bits_fit b g))
 
   bits_associate : ((l m n : ℕ) → op (op l m) n ≡ op l (op m n)) → Associates (by_bits op)
   bits_associate assoc a b c f g h =
@@ -80,7 +83,8 @@ module _ (op : ℕ → ℕ → ℕ) (below : (m n : ℕ) → m < 2 ^ 64 → n < 
 bits_exchange : (op : ℕ → ℕ → ℕ) → ((m n : ℕ) → op m n ≡ op n m) → Exchanges (by_bits op)
 bits_exchange op comm a b f g = ap (cast_signed w64) (comm (cast_unsigned w64 a) (cast_unsigned w64 b))
 
-bits_unit : (op : ℕ → ℕ → ℕ) (unit : ℤ) → ((n : ℕ) → n < 2 ^ 64 → op (cast_unsigned w64 unit) n ≡ n) → HasUnit (by_bits op) unit
+bits_unit : (op : ℕ → ℕ → ℕ) (unit : ℤ) → ((n : ℕ) → n < 2 ^ 64 → op (cast_unsigned w64 unit) n ≡ n) →
+    HasUnit (by_bits op) unit
 bits_unit op unit same a f = ap (cast_signed w64) (same (cast_unsigned w64 a) (bits_fit a f)) ∙ to_z-of_z w64 a f
 
 and_below : (m n : ℕ) → m < 2 ^ 64 → n < 2 ^ 64 → bit_and m n < 2 ^ 64

@@ -1,7 +1,9 @@
 -- The names by which refusals are printed.
 use Rattle.std.specs.Prelude.{ℕ, List, codes}
 use Rattle.krn_base.specs.declared.refusal.Rule.{Rule}
-use Rattle.krn_base.specs.declared.refusal.Rule.TheVariants.{Lex, Syntax, Export, Directive, Profile, Name, Recursion, Types, Retype, Unassigned, TooLarge, TooDeep, LoopForm, LiveAfter, ReductionUse, MayFault, Allocates, Dependence}
+use Rattle.krn_base.specs.declared.refusal.Rule.TheVariants.{Lex, Syntax, Export, Directive, Profile, Name, Recursion}
+use Rattle.krn_base.specs.declared.refusal.Rule.TheVariants.{Types, Retype, Unassigned, TooLarge, TooDeep, LoopForm}
+use Rattle.krn_base.specs.declared.refusal.Rule.TheVariants.{LiveAfter, ReductionUse, MayFault, Allocates, Dependence}
 
 abbrev pub rule_name : Rule → List ℕ
 rule_name Lex = codes "Lex"

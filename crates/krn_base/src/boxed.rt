@@ -58,3 +58,6 @@ impl<T: PartialEq> PartialEq for Boxed<T> {
 impl<T: Eq> Eq for Boxed<T> {
     ghost laws = { T.Eq.laws };
 }
+
+#[cfg(test)]
+mod tests;

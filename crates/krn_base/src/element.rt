@@ -1,14 +1,15 @@
 // Operations on two words, and on one.
 ghost use Rattle.std.specs.Prelude.{◌≡◌, ◌↔◌, ◌⊎◌, pos, ◌<ℤ◌, IfOk, IfErr, IsErrOf};
-ghost use Rattle.krn_base.specs.Numbers.{element_result, scalar_result, unary_result, HasSmallExponent, IsDivision, IsShift};
+ghost use Rattle.krn_base.specs.Numbers.{element_result, scalar_result, unary_result, HasSmallExponent, IsDivision};
+ghost use Rattle.krn_base.specs.Numbers.{IsShift};
 
 use crate::fault::Fault;
 use crate::operation::{BinOp, UnOp};
 use crate::words;
 
 /// The operation on one pair of elements. Sums and products wrap at 64 bits, comparisons are 1 or 0.
-/// It never fails: by a divisor of 0 both `//` and `%` give 0, as NumPy does, and a shift by a count outside 0 to 63 leaves
-/// 0, or -1 where a negative word is shifted to the right (this project's rule).
+/// It never fails: by a divisor of 0 both `//` and `%` give 0, as NumPy does, and a shift by a count outside 0 to 63
+/// leaves 0, or -1 where a negative word is shifted to the right (this project's rule).
 pub fn elem_op(op: BinOp, a: i64, b: i64) -> i64
     ensures { result ≡ element_result op a b }
 {
@@ -52,8 +53,8 @@ pub fn scalar_op(op: BinOp, a: i64, b: i64) -> Result<i64, Fault>
     }
 }
 
-/// The operation on one word. Negation, `Abs` and powers wrap: both the opposite and the `Abs` of the least word are the least word.
-/// `Flip` and `Test` compare with 0. A power's exponent is at most 62.
+/// The operation on one word. Negation, `Abs` and powers wrap: both the opposite and the `Abs` of the least word are
+/// the least word. `Flip` and `Test` compare with 0. A power's exponent is at most 62.
 pub fn un_op(op: UnOp, a: i64) -> i64
     requires { HasSmallExponent op }
     ensures { result ≡ unary_result op a }

@@ -1,6 +1,7 @@
-ghost use Rattle.std.specs.Prelude.{◌≡◌, IfOk, length};
+ghost use Rattle.std.specs.Prelude.{◌≡◌, ◌<◌, ◌++◌, ◌∷◌, [], IfOk, IfSome, IsSome, OnOk, OnErr, length, slice_index_or};
+ghost use Rattle.std.specs.Prelude.{slice_set, ◌↔◌};
 
-use std::alloc::AllocError;
+use std::alloc::{AllocError, Global};
 use std::marker::Model;
 
 /// A list of bytes: a name or the text of a note.
@@ -26,7 +27,16 @@ impl<T> Model for Seq<T> {
 
 impl<T> Seq<T> {
     ghost use Rattle.std.specs.Borrow.{sem};
-    ghost use Rattle.krn_base.specs.Lending.{lends_items};
+    ghost use Rattle.krn_base.specs.Lending.{lends_item, lends_items};
+
+    /// The empty list. Takes no memory.
+    pub fn new(alloc: Global) -> Seq<T>
+        ensures { result ≡ [] }
+    {
+        Seq {
+            items: Vec::new(alloc),
+        }
+    }
 
     /// The list of the elements of `items`, in order. Takes no memory.
     pub fn from_vec(items: Vec<T>) -> Seq<T>
@@ -43,6 +53,13 @@ impl<T> Seq<T> {
         items
     }
 
+    /// How many elements there are.
+    pub fn len(&self) -> usize
+        ensures { result ≡ length self.now }
+    {
+        self.items.len()
+    }
+
     /// The elements as a slice. Takes no memory.
     pub fn as_slice(&self) -> &[T]
         ensures { result.now ≡ self.now }
@@ -56,6 +73,34 @@ impl<T> Seq<T> {
         ensures value { result.now ≡ self.old }
     {
         self.items.as_mut_slice()
+    }
+
+    /// The element at `at`, through which it may be replaced, or None past the last one. Takes no memory.
+    pub fn get_mut(&mut self, at: usize) -> Option<&mut T>
+        ensures* lends { sem 𝓛 (lends_item T.row self.entry at result) }
+        ensures found { IsSome result ↔ (at < length self.old) }
+        ensures value { IfSome result (λ item. item.now ≡ slice_index_or self.old at item.now) }
+    {
+        self.items.get_mut(at)
+    }
+}
+
+impl<T: Drop> Seq<T> {
+    /// Puts `item` behind the last element. Where memory is wanting, the list stays as it was and `item` is dropped.
+    pub fn push(&mut self, item: T) -> Result<(), AllocError>
+        ensures pushed { OnOk result (self.new ≡ self.old ++ item ∷ []) }
+        ensures unchanged { OnErr result (self.new ≡ self.old) }
+    {
+        self.items.push(item)?;
+        Ok(())
+    }
+
+    /// Puts `item` in place of the element at `at`, which is dropped. Takes no memory.
+    pub fn set(&mut self, at: usize, item: T)
+        requires { at < length self.old }
+        ensures { self.new ≡ slice_set self.old at item }
+    {
+        self.items[at] = item;
     }
 }
 
@@ -93,3 +138,6 @@ fn cross<T: Send + Sync>(_value: &T) {}
 fn lists_cross_threads<T: Send + Sync>(list: &Seq<T>) {
     cross(list);
 }
+
+#[cfg(test)]
+mod tests;

@@ -2,7 +2,12 @@
 ghost use Rattle.std.specs.Prelude.{◌≡◌, ℤ};
 ghost use Rattle.krn_base.specs.Numbers.{join_result, unit_of};
 ghost use Rattle.krn_base.specs.Reduce.{InRange, Associates, Exchanges, HasUnit};
-ghost use Rattle.krn_base.specs.ReduceLaws.{sum_in_range, sum_associates, sum_exchanges, sum_unit, prod_in_range, prod_associates, prod_exchanges, prod_unit, and_in_range, and_associates, and_exchanges, and_unit, or_in_range, or_associates, or_exchanges, or_unit, xor_in_range, xor_associates, xor_exchanges, xor_unit, max_in_range, max_associates, max_exchanges, max_unit, min_in_range, min_associates, min_exchanges, min_unit};
+ghost use Rattle.krn_base.specs.ReduceLaws.{sum_in_range, sum_associates, sum_exchanges, sum_unit, prod_in_range};
+ghost use Rattle.krn_base.specs.ReduceLaws.{prod_associates, prod_exchanges, prod_unit, and_in_range, and_associates};
+ghost use Rattle.krn_base.specs.ReduceLaws.{and_exchanges, and_unit, or_in_range, or_associates, or_exchanges, or_unit};
+ghost use Rattle.krn_base.specs.ReduceLaws.{xor_in_range, xor_associates, xor_exchanges, xor_unit, max_in_range};
+ghost use Rattle.krn_base.specs.ReduceLaws.{max_associates, max_exchanges, max_unit, min_in_range, min_associates};
+ghost use Rattle.krn_base.specs.ReduceLaws.{min_exchanges, min_unit};
 ghost use Rattle.krn_base.specs.declared.operation.Join.TheVariants as joins;
 
 use crate::operation::Join;

@@ -1,4 +1,5 @@
-// The operations at the edges of the words: one table for each, with a row for each left operand. Python's own integers,
+// The operations at the edges of the words: one table for each, with a row for each left operand. Python's own
+// integers,
 // reduced to 64 bits, gave the values.
 use super::{
     AndAll, BinOp, Fault, Join, MaxOf, MinOf, OrAll, Prod, Reduce, Sum, UnOp, XorAll, elem_op,

@@ -7,4 +7,5 @@ use Rattle.krn_base.proofs.words.right_by.Goals as goal
 pub returns : goal.returns
 returns c =
     ap (λ z. to_z w64 (of_z w64 (int_shr z c.args.count))) (to_z-of_z w64 c.args.a c.ranges.a)
-    ∙ to_z-of_z w64 (int_shr c.args.a c.args.count) (fits-shr c.args.a c.args.count c.ranges.a) ∙ shr-floor_div c.args.a c.args.count
+    ∙ to_z-of_z w64 (int_shr c.args.a c.args.count) (fits-shr c.args.a c.args.count c.ranges.a) ∙
+    shr-floor_div c.args.a c.args.count

@@ -8,4 +8,5 @@ pub returns : goal.returns
 returns c =
     let fits : FitsSigned w64 c.wrapping_pow.result = search rules in
     to_z-of_z w64 c.wrapping_pow.result fits ∙ c.wrapping_pow.ensures
-    ∙ (λ i. int_wrapping_pow w64 (to_z-of_z w64 c.args.a c.ranges.a i) (c.from.ensures i)) ∙ wrap-power c.args.a c.args.exponent c.ranges.a
+    ∙ (λ i. int_wrapping_pow w64 (to_z-of_z w64 c.args.a c.ranges.a i) (c.from.ensures i)) ∙
+    wrap-power c.args.a c.args.exponent c.ranges.a
