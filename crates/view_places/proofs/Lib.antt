@@ -4,12 +4,16 @@ pub mod Distinct
 pub mod Fours
 pub mod Indices
 pub mod Joins
+pub mod NextIndex
+pub mod OneDimension
 pub mod OneShape
 pub mod OneView
 pub mod Operations
 pub mod PartLemmas
 pub mod Picks
 pub mod Reach
+pub mod RowLemmas
 pub mod Settled
 pub mod Shapes
+pub mod Spreading
 pub mod WalkLemmas

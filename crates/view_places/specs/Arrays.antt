@@ -1,10 +1,18 @@
 -- Arrays as lists of entries in row-major order, over shapes that are lists of extents from the first dimension.
 -- The rules are those of the NumPy reference (row-major order, broadcasting); the limit of 2^22 is this project's own.
 -- There are no strides and no offsets here.
-use Rattle.std.specs.Prelude.{ℕ, ◌+◌, ◌-◌, ◌*◌, ◌^◌, ◌==◌, Bool, true, if◌then◌else◌, not, ◌&&◌, List, [], ◌∷◌, map, length, drop, reverse, max, filter, slice_index, slice_index_or, slice_set, nat_lt, nat_le, ◌<◌, insert, remove, ℤ, pos, negsuc, Option, Some, None, Result, Ok, Err}
+use Rattle.std.specs.Prelude.{◌≡◌, ℕ, ◌+◌, ◌-◌, ◌*◌, ◌^◌, ◌==◌, Bool, true, if◌then◌else◌, not, ◌&&◌, List, [], ◌∷◌}
+use Rattle.std.specs.Prelude.{map}
+use Rattle.std.specs.Prelude.{length, drop, reverse, max, filter, slice_index, slice_index_or, slice_set, nat_lt}
+use Rattle.std.specs.Prelude.{nat_le, ◌<◌, insert, remove, ℤ, pos, negsuc, Option, Some, None, option_map, Result, Ok}
+use Rattle.std.specs.Prelude.{Err}
 use Rattle.std.specs.List.{flat_map, list_all, range_with_len}
 use Rattle.krn_base.specs.declared.fault.Fault.{Fault}
 use Rattle.krn_base.specs.declared.fault.Fault.TheVariants.{ValueError, SizeLimit}
+
+-- the most that an extent and a number of elements may be
+abbrev pub max_elements : ℕ
+max_elements = 2 ^ 22
 
 -- how many elements an array of this shape has
 abbrev pub element_count : List ℕ → ℕ
@@ -33,9 +41,11 @@ clipped [] index = []
 clipped (n ∷ ns) [] = []
 clipped (n ∷ ns) (i ∷ index) = (if n == 1 then 0 else i) ∷ clipped ns index
 
--- an array of the shape `from` spread to the shape `to`: entries repeat along missing dimensions and dimensions of extent 1
+-- an array of the shape `from` spread to the shape `to`: entries repeat along missing dimensions and dimensions of
+-- extent 1
 abbrev pub spread : {A : Type 0} → A → List ℕ → List ℕ → List A → List A
-spread past from to xs = map (λ index. entry past from xs (clipped from (drop (length to - length from) index))) (indices to)
+spread past from to xs = map (λ index. entry past from xs (clipped from (drop (length to - length from) index)))
+    (indices to)
 
 -- the extent of the dimension that stands k before the last one; 1 where it is missing
 abbrev pub extent_back : ℕ → List ℕ → ℕ
@@ -61,19 +71,23 @@ dimensions shapes = reverse (range_with_len 0 (greatest_rank shapes))
 
 -- an extent and a number of elements that an array may have
 abbrev pub is_small : List ℕ → Bool
-is_small ns = list_all (λ n. nat_le n (2 ^ 22)) ns && nat_le (element_count ns) (2 ^ 22)
+is_small ns = list_all (λ n. nat_le n max_elements) ns && nat_le (element_count ns) max_elements
 
 -- the one extent other than 1 in each aligned dimension, or 1
 abbrev pub joined_shape : List (List ℕ) → List ℕ
 joined_shape shapes = map (λ k. slice_index_or (proper_extents k shapes) 0 1) (dimensions shapes)
 
--- the broadcast of shapes: ValueError where some aligned dimension has two different extents other than 1, then SizeLimit
--- where the result is too large
+-- the broadcast of shapes: ValueError where some aligned dimension has two different extents other than 1, then
+-- SizeLimit where the result is too large
 abbrev pub broadcast_of : List (List ℕ) → Result (List ℕ) Fault
 broadcast_of shapes =
     if list_all (λ k. all_same (proper_extents k shapes)) (dimensions shapes)
     then (if is_small (joined_shape shapes) then Ok (joined_shape shapes) else Err SizeLimit)
     else Err ValueError
+
+-- a shape spreads to another: their broadcast is the other
+abbrev pub SpreadsTo : List ℕ → List ℕ → Type 0
+SpreadsTo ns ms = broadcast_of (ns ∷ ms ∷ []) ≡ Ok ms
 
 -- an index inside a shape: as many numbers as there are dimensions, each below its extent
 abbrev pub Inside : List ℕ → List ℕ → Type 0
@@ -91,13 +105,18 @@ position_of n (negsuc i) = if nat_lt i n then Some (n - 1 - i) else None
 abbrev pub at_index : {A : Type 0} → A → ℕ → ℕ → List ℕ → List A → List A
 at_index past axis i ns xs = map (λ index. entry past ns xs (insert index axis i)) (indices (remove ns axis))
 
+-- the entries that an integer subscript keeps of a dimension; None outside it
+abbrev pub indexed : {A : Type 0} → A → ℕ → ℤ → List ℕ → List A → Option (List A)
+indexed past axis i ns xs = option_map (λ k. at_index past axis k ns xs) (position_of (slice_index ns axis) i)
+
 -- an index with another number in a dimension
 abbrev pub renumbered : ℕ → List ℕ → List ℕ → List ℕ
 renumbered axis picks index = slice_set index axis (slice_index picks (slice_index index axis))
 
 -- the entries that have one of the picked numbers in a dimension, in the order of the picks
 abbrev pub sliced : {A : Type 0} → A → ℕ → List ℕ → List ℕ → List A → List A
-sliced past axis picks ns xs = map (λ index. entry past ns xs (renumbered axis picks index)) (indices (slice_set ns axis (length picks)))
+sliced past axis picks ns xs = map (λ index. entry past ns xs (renumbered axis picks index))
+    (indices (slice_set ns axis (length picks)))
 
 -- the entries by reversed indices
 abbrev pub transposed : {A : Type 0} → A → List ℕ → List A → List A

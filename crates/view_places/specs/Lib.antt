@@ -1,8 +1,10 @@
 pub mod Alignment
 pub mod Arrays
+pub mod Rows
 pub mod Shape
 pub mod Slice
 pub mod Spread
+pub mod Stepping
 pub mod Strides
 pub mod View
 pub mod Walk

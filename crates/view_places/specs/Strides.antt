@@ -1,5 +1,6 @@
 -- Where an offset and strides place the entries of a shape in a buffer.
-use Rattle.std.specs.Prelude.{◌≡◌, ℕ, ◌-◌, ◌≤◌, List, [], ◌∷◌, map, take, drop, replicate, ℤ, pos, ◌+ℤ◌, ◌*ℤ◌, ◌≤ℤ◌, ◌<ℤ◌, unsigned_abs, slice_index_or, IsTrue, if◌then◌else◌, ◌==◌}
+use Rattle.std.specs.Prelude.{◌≡◌, ℕ, ◌-◌, ◌≤◌, List, [], ◌∷◌, map, take, drop, replicate, ℤ, pos, ◌+ℤ◌, ◌*ℤ◌, ◌≤ℤ◌}
+use Rattle.std.specs.Prelude.{◌<ℤ◌, unsigned_abs, slice_index_or, IsTrue, if◌then◌else◌, ◌==◌}
 use Rattle.view_places.specs.Arrays.{element_count, indices, is_small, Inside}
 
 -- how far an index leads: the sum of its numbers, each times its stride
@@ -20,7 +21,8 @@ place_at offset stride index = unsigned_abs (led_to offset stride index)
 abbrev pub strided : ℤ → List ℤ → List ℕ → List ℕ
 strided offset stride ns = map (place_at offset stride) (indices ns)
 
--- the rank is at most 4, the entries past it are 1, and the extents and the number of elements are what an array may have
+-- the rank is at most 4, the entries past it are 1, and the extents and the number of elements are what an array may
+-- have
 pub record IsArrayShape (rank : ℕ) (extent : List ℕ) : Type 0 where
   pub rank_fits : rank ≤ 4
   pub unused : drop rank extent ≡ replicate (4 - rank) 1
@@ -29,7 +31,8 @@ pub record IsArrayShape (rank : ℕ) (extent : List ℕ) : Type 0 where
 -- each index of the shape leads to a place below the length
 abbrev pub LeadsWithin : ℕ → List ℕ → ℤ → List ℤ → Type 0
 LeadsWithin length ns offset stride =
-    (index : List ℕ) → Inside ns index → (pos 0 ≤ℤ led_to offset stride index) × (led_to offset stride index <ℤ pos length)
+    (index : List ℕ) → Inside ns index →
+    (pos 0 ≤ℤ led_to offset stride index) × (led_to offset stride index <ℤ pos length)
 
 -- different indices of the shape lead to different places
 abbrev pub LeadsApart : List ℕ → ℤ → List ℤ → Type 0

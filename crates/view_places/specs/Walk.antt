@@ -1,4 +1,5 @@
 -- A walk: a number of steps from a start.
+-- Clauses of private functions and proofs alone cite it.
 use Rattle.std.specs.Prelude.{ℕ, ◌<◌, ◌≤◌, ◌≢◌, List, map, pos, ◌≤ℤ◌, ◌<ℤ◌, unsigned_abs}
 use Rattle.std.specs.List.{range_with_len}
 use Rattle.view_places.specs.Slice.{after_steps}

@@ -1,8 +1,11 @@
 //! Lists of four entries, one for each dimension that an array may have.
-ghost use Rattle.std.specs.Prelude.{◌≡◌, ◌↔◌, IsTrue, ◌<◌, ◌≤◌, ◌*◌, ◌^◌, ◌++◌, ◌∷◌, [], take, drop, replicate, remove, reverse, slice_set, pos, nat_le};
+ghost use Rattle.std.specs.Prelude.{◌≡◌, ◌↔◌, IsTrue, ◌<◌, ◌≤◌, ◌*◌, ◌^◌, ◌++◌, ◌∷◌, [], take, drop, replicate, remove};
+ghost use Rattle.std.specs.Prelude.{reverse, slice_set, pos, nat_le};
 ghost use Rattle.std.specs.List.{list_all};
-ghost use Rattle.view_places.specs.Arrays.{element_count, is_small as is_small_shape};
+ghost use Rattle.view_places.specs.Arrays.{element_count, max_elements, is_small as is_small_shape};
 ghost use Rattle.view_places.specs.Strides.{weights};
+
+use crate::shape::MAX_ELEMENTS;
 
 /// The entries without the one of a dimension, and `last` behind them.
 pub fn without<T: Copy>(xs: &[T; 4], axis: u8, last: T) -> [T; 4]
@@ -101,14 +104,14 @@ pub fn row_major(extent: &[u32; 4]) -> [i128; 4]
 
 /// Whether each extent is at most 2^22.
 fn are_limited(extent: &[u32; 4]) -> bool
-    ensures { result ≡ list_all (λ n. nat_le n (2 ^ 22)) extent.now }
+    ensures { result ≡ list_all (λ n. nat_le n max_elements) extent.now }
 {
-    extent.iter().all(|n| *n <= 4_194_304)
+    extent.iter().all(|n| *n <= MAX_ELEMENTS)
 }
 
 /// Whether each extent and the number of elements are at most 2^22.
 pub fn is_small(extent: &[u32; 4]) -> bool
     ensures { result ≡ is_small_shape extent.now }
 {
-    are_limited(extent) && element_count_of(extent) <= 4_194_304
+    are_limited(extent) && element_count_of(extent) <= u128::from(MAX_ELEMENTS)
 }

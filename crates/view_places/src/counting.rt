@@ -1,7 +1,9 @@
 //! What a slice counts out of a dimension, by Python's `slice.indices`.
-ghost use Rattle.std.specs.Prelude.{◌≡◌, ◌≢◌, ◌↔◌, ℕ, ◌+◌, ◌-◌, ◌*◌, ◌^◌, ◌<◌, ◌≤◌, ℤ, pos, negsuc, ◌-ℤ◌, ◌≤ℤ◌, ◌<ℤ◌, unsigned_abs, map, MatchOption, IfSome, None, Some};
+ghost use Rattle.std.specs.Prelude.{◌≡◌, ◌≢◌, ◌↔◌, ℕ, ◌+◌, ◌-◌, ◌*◌, ◌^◌, ◌<◌, ◌≤◌, ℤ, pos, negsuc, ◌-ℤ◌, ◌≤ℤ◌, ◌<ℤ◌};
+ghost use Rattle.std.specs.Prelude.{unsigned_abs, map, MatchOption, IfSome, None, Some};
 ghost use Rattle.std.specs.List.{range_with_len};
 ghost use Rattle.view_places.specs.Slice.{from_front, clip, bound, walk, slice_indices, IsDistance};
+ghost use Rattle.view_places.specs.Arrays.{max_elements};
 ghost use Rattle.view_places.specs.Walk.{picks, StaysWithin};
 
 use crate::slice::Slice;
@@ -9,7 +11,7 @@ use crate::walk::Walk;
 
 /// A bound counted from the front.
 fn counted_from_front(n: u32, given: i64) -> i64
-    requires { n ≤ 2 ^ 22 }
+    requires { n ≤ max_elements }
     ensures { result ≡ from_front n given }
 {
     if given < 0 {
@@ -21,7 +23,7 @@ fn counted_from_front(n: u32, given: i64) -> i64
 
 /// The nearest number from `least` to `most` to a bound that is counted from the front.
 fn clipped(n: u32, least: i64, most: i64, given: i64) -> i64
-    requires small { n ≤ 2 ^ 22 }
+    requires small { n ≤ max_elements }
     requires order { least ≤ℤ most }
     ensures value { result ≡ clip least most (from_front n given) }
     ensures least { least ≤ℤ result }
@@ -32,7 +34,7 @@ fn clipped(n: u32, least: i64, most: i64, given: i64) -> i64
 
 /// A bound of a slice, or the absent one.
 fn bound_of(n: u32, least: i64, most: i64, absent: i64, given: Option<i64>) -> i64
-    requires small { n ≤ 2 ^ 22 }
+    requires small { n ≤ max_elements }
     requires order { least ≤ℤ most }
     requires least { least ≤ℤ absent }
     requires most { absent ≤ℤ most }
@@ -61,7 +63,7 @@ fn steps_in(distance: u32, length: u64) -> u32
 /// How far a stop is past a start, or 0.
 fn distance(start: i64, stop: i64) -> u32
     requires start { negsuc 0 ≤ℤ start }
-    requires stop { stop ≤ℤ pos (2 ^ 22) }
+    requires stop { stop ≤ℤ pos max_elements }
     ensures { IsDistance start stop result }
 {
     if start < stop {
@@ -73,9 +75,10 @@ fn distance(start: i64, stop: i64) -> u32
 
 /// What a slice with a positive step counts out.
 fn rising(n: u32, s: &Slice, step: i64) -> Walk
-    requires small { n ≤ 2 ^ 22 }
+    requires small { n ≤ max_elements }
     requires step { pos 0 <ℤ step }
-    ensures value { map unsigned_abs (walk n (bound n (pos 0) (pos n) (pos 0) s.now.start) (bound n (pos 0) (pos n) (pos n) s.now.stop) step) ≡ picks result }
+    ensures value { map unsigned_abs (walk n (bound n (pos 0) (pos n) (pos 0) s.now.start)
+        (bound n (pos 0) (pos n) (pos n) s.now.stop) step) ≡ picks result }
     ensures step { result.step ≡ step }
     ensures within { StaysWithin n result }
 {
@@ -89,9 +92,10 @@ fn rising(n: u32, s: &Slice, step: i64) -> Walk
 
 /// What a slice with a negative step counts out.
 fn falling(n: u32, s: &Slice, step: i64) -> Walk
-    requires small { n ≤ 2 ^ 22 }
+    requires small { n ≤ max_elements }
     requires step { step <ℤ pos 0 }
-    ensures value { map unsigned_abs (walk n (bound n (negsuc 0) (pos n -ℤ pos 1) (pos n -ℤ pos 1) s.now.start) (bound n (negsuc 0) (pos n -ℤ pos 1) (negsuc 0) s.now.stop) step) ≡ picks result }
+    ensures value { map unsigned_abs (walk n (bound n (negsuc 0) (pos n -ℤ pos 1) (pos n -ℤ pos 1) s.now.start)
+        (bound n (negsuc 0) (pos n -ℤ pos 1) (negsuc 0) s.now.stop) step) ≡ picks result }
     ensures step { result.step ≡ step }
     ensures within { StaysWithin n result }
 {
@@ -105,7 +109,7 @@ fn falling(n: u32, s: &Slice, step: i64) -> Walk
 
 /// What a slice counts out of a dimension with n entries; None at step 0.
 pub fn slice_walk(n: u32, s: &Slice) -> Option<Walk>
-    requires { n ≤ 2 ^ 22 }
+    requires { n ≤ max_elements }
     ensures value { MatchOption result (slice_indices n s.now ≡ None) (λ w. slice_indices n s.now ≡ Some (picks w)) }
     ensures within { IfSome result (StaysWithin n) }
 {

@@ -4,8 +4,14 @@
 mod aligned;
 mod axes;
 mod counting;
+mod leaps;
+mod limits;
+mod odometer;
+mod odometer_calls;
 mod parts;
+mod rows;
 mod shape;
+mod shape_calls;
 mod slice;
 mod spread;
 mod spread_calls;
@@ -18,8 +24,10 @@ mod view;
 mod view_calls;
 mod walk;
 
-pub use aligned::broadcast;
-pub use shape::{Array, Index, Shape};
+pub use aligned::{broadcast, broadcast_all};
+pub use leaps::advanced;
+pub use odometer::Odometer;
+pub use shape::{Array, Index, MAX_ELEMENTS, Shape};
 pub use slice::Slice;
 pub use spread::Spread;
 pub use view::View;

@@ -17,10 +17,11 @@ impl View {
     ghost use Rattle.view_places.specs.Walk.{picks, StaysWithin};
 
     /// The entries with the number k in a dimension.
-    pub fn at(&self, axis: u8, k: u32) -> View
+    pub(crate) fn at(&self, axis: u8, k: u32) -> View
         requires axis { axis < self.now.rank }
         requires inside { k < slice_index (extents self.now) axis }
-        ensures { IsViewOf self.now result (remove (extents self.now) axis) (at_index 0 axis k (extents self.now) (places self.now)) }
+        ensures { IsViewOf self.now result (remove (extents self.now) axis)
+            (at_index 0 axis k (extents self.now) (places self.now)) }
     {
         let along = led_by(self.stride[usize::from(axis)], i64::from(k));
         let offset = plus(i128::from(self.offset), along);
@@ -37,10 +38,11 @@ impl View {
     }
 
     /// The entries whose number in a dimension a walk meets.
-    pub fn picked(&self, axis: u8, walk: Walk) -> View
+    pub(crate) fn picked(&self, axis: u8, walk: Walk) -> View
         requires axis { axis < self.now.rank }
         requires within { StaysWithin (slice_index (extents self.now) axis) walk }
-        ensures { IsViewOf self.now result (slice_set (extents self.now) axis (length (picks walk))) (sliced 0 axis (picks walk) (extents self.now) (places self.now)) }
+        ensures { IsViewOf self.now result (slice_set (extents self.now) axis (length (picks walk)))
+            (sliced 0 axis (picks walk) (extents self.now) (places self.now)) }
     {
         let along = self.stride[usize::from(axis)];
         let start = led_by(along, walk.start);
@@ -59,14 +61,16 @@ impl View {
     }
 
     /// The view spread to a shape that its own fits to.
-    pub fn spread_to(&self, shape: &Shape) -> Spread
+    pub(crate) fn spread_to(&self, shape: &Shape) -> Spread
         requires shape { IsShape shape.now }
         requires small { IsTrue (is_small (extents_of_shape shape.now)) }
         requires fits { FitsTo (extents self.now) (extents_of_shape shape.now) }
         ensures buffer { result.buffer ≡ self.now.buffer }
         ensures length { result.length ≡ self.now.length }
+        ensures extent { result.extent ≡ shape.now.extent }
         ensures extents { extents_of_spread result ≡ extents_of_shape shape.now }
-        ensures places { places_of_spread result ≡ spread 0 (extents self.now) (extents_of_shape shape.now) (places self.now) }
+        ensures places { places_of_spread result ≡
+            spread 0 (extents self.now) (extents_of_shape shape.now) (places self.now) }
     {
         let strides = self.stride;
         let stride = shifted(&strides, shape.rank - self.rank);

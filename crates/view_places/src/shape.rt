@@ -1,5 +1,8 @@
 use krn_base::{Kind, Seq};
 
+/// The most that an extent and a number of elements of an array may be: 2^22, this project's own limit.
+pub const MAX_ELEMENTS: u32 = 1 << 22;
+
 /// A shape: its rank, at most 4, and the extents of its dimensions from the first. The entries past the rank are 1.
 #[derive(Clone, Copy, Debug, PartialEq, Eq)]
 pub struct Shape {

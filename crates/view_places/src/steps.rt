@@ -1,7 +1,8 @@
 //! Numbers of steps along strides, in numbers wide enough for them.
-ghost use Rattle.std.specs.Prelude.{◌≢◌, ◌==◌, if◌then◌else◌, ◌≡◌, ◌<◌, ◌≤◌, ◌*◌, ◌^◌, ◌*ℤ◌, ◌+ℤ◌, ◌≤ℤ◌, ◌<ℤ◌, pos, unsigned_abs, take, replicate, drop, length, option_map};
-ghost use Rattle.view_places.specs.Arrays.{position_of as position};
-ghost use Rattle.view_places.specs.Strides.{led_to};
+ghost use Rattle.std.specs.Prelude.{◌≢◌, ◌==◌, if◌then◌else◌, ◌≡◌, ◌<◌, ◌≤◌, ◌^◌, ℕ, ◌*ℤ◌, ◌+ℤ◌, pos, unsigned_abs};
+ghost use Rattle.std.specs.Prelude.{slice_index_or, take};
+ghost use Rattle.view_places.specs.Arrays.{entry, position_of as position, Inside};
+ghost use Rattle.view_places.specs.Strides.{led_to, strided, IsArrayShape, LeadsWithin};
 
 use crate::shape::Index;
 
@@ -46,13 +47,25 @@ pub fn led(offset: i64, stride: &[i64; 4], at: &Index) -> i128
     sum(offset, first, second, third, fourth)
 }
 
-/// The place to which an index leads in a buffer of this length.
-pub fn place_of(length: u32, offset: i64, stride: &[i64; 4], at: &Index) -> u32
-    requires low { pos 0 ≤ℤ led_to offset stride.now at.now }
-    requires high { led_to offset stride.now at.now <ℤ pos length }
-    ensures { pos result ≡ led_to offset stride.now at.now }
+/// The place of the element at an index inside the extents, of a shape that is laid out within a buffer of this length.
+pub fn place_of(
+    length: u32,
+    rank: u8,
+    extent: &[u32; 4],
+    offset: &i64,
+    stride: &[i64; 4],
+    at: &Index,
+) -> u32
+    requires shape { IsArrayShape rank extent.now }
+    requires still { (axis : ℕ) → slice_index_or extent.now axis 1 ≡ 1 →
+        slice_index_or stride.now axis (pos 0) ≡ pos 0 }
+    requires within { LeadsWithin length (take rank extent.now) offset.now stride.now }
+    requires inside { Inside (take rank extent.now) (take rank at.now) }
+    ensures entry { result ≡ entry 0 (take rank extent.now) (strided offset.now stride.now (take rank extent.now))
+        (take rank at.now) }
+    ensures within { result < length }
 {
-    led(offset, stride, at) as u32
+    led(*offset, stride, at) as u32
 }
 
 /// Which entry of a dimension a subscript names.

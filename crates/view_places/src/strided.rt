@@ -32,7 +32,8 @@ impl Strided {
         requires shape { IsArrayShape self.now.rank self.now.extent }
         requires within { LeadsWithin length (take self.now.rank self.now.extent) self.now.offset self.now.stride }
         ensures settled { IsSettled (take self.now.rank self.now.extent) self.now.extent result.offset result.stride }
-        ensures same { (index : List ℕ) → Inside (take self.now.rank self.now.extent) index → led_to result.offset result.stride index ≡ led_to self.now.offset self.now.stride index }
+        ensures same { (index : List ℕ) → Inside (take self.now.rank self.now.extent) index →
+            led_to result.offset result.stride index ≡ led_to self.now.offset self.now.stride index }
     {
         if element_count_of(&self.extent) == 0 {
             return Settled {
@@ -79,8 +80,10 @@ impl Strided {
         requires within { LeadsWithin length (take self.now.rank self.now.extent) self.now.offset self.now.stride }
         ensures buffer { result.buffer ≡ buffer }
         ensures length { result.length ≡ length }
+        ensures extent { result.extent ≡ self.now.extent }
         ensures extents { extents_of_spread result ≡ take self.now.rank self.now.extent }
-        ensures places { places_of_spread result ≡ strided self.now.offset self.now.stride (take self.now.rank self.now.extent) }
+        ensures places { places_of_spread result ≡
+            strided self.now.offset self.now.stride (take self.now.rank self.now.extent) }
     {
         let Settled { offset, stride } = self.settled(length);
         let extent = self.extent;

@@ -1,4 +1,4 @@
-use crate::{Shape, Slice, View};
+use crate::{Odometer, Shape, Slice, View, broadcast, broadcast_all};
 use krn_base::Fault;
 use std::test::Fail;
 
@@ -135,5 +135,93 @@ fn slices_as_python_counts(rt: HostRuntime) -> Result<(), Fail> {
         let seen = part.map(|v| (v.extent[0], v.offset, v.stride[0]));
         assert_eq!(rt; seen, wanted, "{n} {start:?} {stop:?} {step:?}");
     }
+    Ok(())
+}
+
+// A row: shapes, and what `numpy.broadcast_shapes` gives for them, or the fault.
+#[test]
+fn broadcasts_as_numpy_has_them(rt: HostRuntime) -> Result<(), Fail> {
+    let none = Shape {
+        rank: 0,
+        extent: [1; 4],
+    };
+    let row = Shape {
+        rank: 1,
+        extent: [3, 1, 1, 1],
+    };
+    let column = Shape {
+        rank: 2,
+        extent: [2, 1, 1, 1],
+    };
+    let block = Shape {
+        rank: 4,
+        extent: [5, 1, 1, 3],
+    };
+    let tall = Shape {
+        rank: 2,
+        extent: [4194304, 1, 1, 1],
+    };
+    let wide = Shape {
+        rank: 2,
+        extent: [1, 2, 1, 1],
+    };
+    let both = Shape {
+        rank: 2,
+        extent: [2, 3, 1, 1],
+    };
+    let all = Shape {
+        rank: 4,
+        extent: [5, 1, 2, 3],
+    };
+    assert_eq!(rt; broadcast(&row, &column), Ok(both));
+    assert_eq!(rt; broadcast_all(&[]), Ok(none));
+    assert_eq!(rt; broadcast_all(&[row, column, block]), Ok(all));
+    assert_eq!(rt; broadcast_all(&[tall, wide]), Err(Fault::SizeLimit));
+    assert_eq!(rt; broadcast_all(&[tall, wide, row]), Err(Fault::ValueError));
+    Ok(())
+}
+
+#[test]
+fn spreads_and_their_places(rt: HostRuntime) -> Result<(), Fail> {
+    let column = View::whole(
+        7,
+        &Shape {
+            rank: 2,
+            extent: [2, 1, 1, 1],
+        },
+    );
+    let whole = Shape {
+        rank: 3,
+        extent: [2, 2, 3, 1],
+    };
+    assert_eq!(rt; column.rank, 2);
+    assert_eq!(rt; column.extent, [2, 1, 1, 1]);
+    assert_eq!(rt; column.place(&[1, 0, 9, 9]), 1);
+    let spread = column.spread(&whole);
+    assert_eq!(rt; spread.is_some(), true);
+    if let Some(spread) = spread {
+        assert_eq!(rt; spread.rank, 3);
+        assert_eq!(rt; spread.stride, [0, 1, 0, 0]);
+        assert_eq!(rt; spread.extent, [2, 2, 3, 1]);
+        assert_eq!(rt; spread.place(&[1, 1, 2, 9]), 1);
+        assert_eq!(rt; spread.count(), 12);
+        assert_eq!(rt; spread.leaps(), [-1, 1, 0, 0]);
+    }
+    assert_eq!(rt; View::whole(7, &whole).spread(&column.shape()), None);
+    Ok(())
+}
+
+#[test]
+fn an_odometer_goes_on(rt: HostRuntime) -> Result<(), Fail> {
+    let mut odometer = Odometer::start(&[1, 1, 2, 2]);
+    assert_eq!(rt; odometer.at, [0, 0, 0, 0]);
+    let first = odometer.step();
+    assert_eq!(rt; odometer.at, [0, 0, 0, 1]);
+    let second = odometer.step();
+    assert_eq!(rt; odometer.at, [0, 0, 1, 0]);
+    let third = odometer.step();
+    assert_eq!(rt; odometer.at, [0, 0, 1, 1]);
+    assert_eq!(rt; (first, second, third), (3, 2, 3));
+    assert_eq!(rt; odometer.number, 3);
     Ok(())
 }

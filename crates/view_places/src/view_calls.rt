@@ -10,13 +10,15 @@ use crate::view::View;
 use krn_base::Fault;
 
 impl View {
-    ghost use Rattle.std.specs.Prelude.{◌≡◌, ℕ, List, ◌<◌, ◌∷◌, [], length, take, reverse, IsTrue, MatchOption, MatchResult, Ok, Err, None, Some, slice_index, slice_set, remove, ◌↔◌, is_some, IfSome};
+    ghost use Rattle.std.specs.Prelude.{◌≡◌, ◌↔◌, ℕ, ◌<◌, length, take, reverse, slice_index, remove, IsTrue};
+    ghost use Rattle.std.specs.Prelude.{None, Some, IfOk, IfErr, OnErr, IfSome, IsSome};
     ghost use Rattle.std.specs.List.{range_with_len};
-    ghost use Rattle.view_places.specs.Arrays.{element_count, entry, spread, is_small, broadcast_of, Inside, position_of, at_index, sliced, transposed};
+    ghost use Rattle.view_places.specs.Arrays.{element_count, entry, spread, is_small, Inside, SpreadsTo};
+    ghost use Rattle.view_places.specs.Arrays.{position_of, indexed, transposed};
     ghost use Rattle.view_places.specs.Shape.{IsShape, extents as extents_of_shape};
     ghost use Rattle.view_places.specs.Spread.{extents as extents_of_spread, places as places_of_spread};
-    ghost use Rattle.view_places.specs.Slice.{slice_indices};
-    ghost use Rattle.view_places.specs.View.{extents, places, IsViewOf, IsConsecutive};
+    ghost use Rattle.view_places.specs.Slice.{slice_indices, sliced_by, sliced_extents};
+    ghost use Rattle.view_places.specs.View.{extents, places, IsConsecutive};
 
     /// All elements of a buffer that has as many as the shape, in order.
     pub fn whole(buffer: u32, shape: &Shape) -> View
@@ -44,7 +46,12 @@ impl View {
     /// `IndexError` where the number is outside -n to n - 1 for a dimension of n entries.
     pub fn index(&self, axis: u8, i: i64) -> Result<View, Fault>
         requires { axis < self.now.rank }
-        ensures { MatchResult result (λ v. (k : ℕ) × (position_of (slice_index (extents self.now) axis) i ≡ Some k) × IsViewOf self.now v (remove (extents self.now) axis) (at_index 0 axis k (extents self.now) (places self.now))) (λ fault. (fault ≡ Fault.IndexError) × (position_of (slice_index (extents self.now) axis) i ≡ None)) }
+        ensures buffer { IfOk result (λ v. v.buffer ≡ self.now.buffer) }
+        ensures length { IfOk result (λ v. v.length ≡ self.now.length) }
+        ensures extents { IfOk result (λ v. extents v ≡ remove (extents self.now) axis) }
+        ensures places { IfOk result (λ v. indexed 0 axis i (extents self.now) (places self.now) ≡ Some (places v)) }
+        ensures index_error { IfErr result (λ fault. fault ≡ Fault.IndexError) }
+        ensures outside { OnErr result (position_of (slice_index (extents self.now) axis) i ≡ None) }
     {
         match steps::position_of(self.extent[usize::from(axis)], i) {
             Some(k) => Ok(self.at(axis, k)),
@@ -57,7 +64,12 @@ impl View {
     /// `ValueError` where the step is 0.
     pub fn slice(&self, axis: u8, s: Slice) -> Result<View, Fault>
         requires { axis < self.now.rank }
-        ensures { MatchResult result (λ v. (picked : List ℕ) × (slice_indices (slice_index (extents self.now) axis) s ≡ Some picked) × IsViewOf self.now v (slice_set (extents self.now) axis (length picked)) (sliced 0 axis picked (extents self.now) (places self.now))) (λ fault. (fault ≡ Fault.ValueError) × (slice_indices (slice_index (extents self.now) axis) s ≡ None)) }
+        ensures buffer { IfOk result (λ v. v.buffer ≡ self.now.buffer) }
+        ensures length { IfOk result (λ v. v.length ≡ self.now.length) }
+        ensures extents { IfOk result (λ v. sliced_extents axis s (extents self.now) ≡ Some (extents v)) }
+        ensures places { IfOk result (λ v. sliced_by 0 axis s (extents self.now) (places self.now) ≡ Some (places v)) }
+        ensures value_error { IfErr result (λ fault. fault ≡ Fault.ValueError) }
+        ensures zero_step { OnErr result (slice_indices (slice_index (extents self.now) axis) s ≡ None) }
     {
         match slice_walk(self.extent[usize::from(axis)], &s) {
             Some(walk) => Ok(self.picked(axis, walk)),
@@ -67,7 +79,10 @@ impl View {
 
     /// The entries by reversed indices.
     pub fn transpose(&self) -> View
-        ensures { IsViewOf self.now result (reverse (extents self.now)) (transposed 0 (extents self.now) (places self.now)) }
+        ensures buffer { result.buffer ≡ self.now.buffer }
+        ensures length { result.length ≡ self.now.length }
+        ensures extents { extents result ≡ reverse (extents self.now) }
+        ensures places { places result ≡ transposed 0 (extents self.now) (places self.now) }
     {
         let extent = reversed(&self.extent, self.rank);
         let stride = reversed(&self.stride, self.rank);
@@ -93,7 +108,8 @@ impl View {
     pub fn places_are_distinct(&self)
         ensures count { length (places self.now) ≡ element_count (extents self.now) }
         ensures within { (i : ℕ) → i < length (places self.now) → slice_index (places self.now) i < self.now.length }
-        ensures distinct { (i j : ℕ) → i < length (places self.now) → j < length (places self.now) → slice_index (places self.now) i ≡ slice_index (places self.now) j → i ≡ j }
+        ensures distinct { (i j : ℕ) → i < length (places self.now) → j < length (places self.now) →
+            slice_index (places self.now) i ≡ slice_index (places self.now) j → i ≡ j }
     {}
 
     /// Two views of one buffer with one shape and the same places are equal.
@@ -105,8 +121,10 @@ impl View {
         ensures { self.now ≡ other.now }
     {}
 
-    /// The shape.
+    /// The shape: the rank and the extents.
     pub fn shape(&self) -> Shape
+        ensures rank { result.rank ≡ self.now.rank }
+        ensures extent { result.extent ≡ self.now.extent }
         ensures extents { extents_of_shape result ≡ extents self.now }
         ensures shape { IsShape result }
         ensures small { IsTrue (is_small (extents self.now)) }
@@ -123,14 +141,26 @@ impl View {
         ensures entry { result ≡ entry 0 (extents self.now) (places self.now) (take self.now.rank at.now) }
         ensures within { result < self.now.length }
     {
-        steps::place_of(self.length, self.offset, &self.stride, at)
+        steps::place_of(
+            self.length,
+            self.rank,
+            &self.extent,
+            &self.offset,
+            &self.stride,
+            at,
+        )
     }
 
     /// The view spread to a shape by broadcasting, or None where the broadcast of the two shapes isn't this shape.
     pub fn spread(&self, shape: &Shape) -> Option<Spread>
         requires { IsShape shape.now }
-        ensures fits { IsTrue (is_some result) ↔ (broadcast_of (extents self.now ∷ extents_of_shape shape.now ∷ []) ≡ Ok (extents_of_shape shape.now)) }
-        ensures spread { IfSome result (λ s. (s.buffer ≡ self.now.buffer) × (s.length ≡ self.now.length) × (extents_of_spread s ≡ extents_of_shape shape.now) × (places_of_spread s ≡ spread 0 (extents self.now) (extents_of_shape shape.now) (places self.now))) }
+        ensures fits { IsSome result ↔ SpreadsTo (extents self.now) (extents_of_shape shape.now) }
+        ensures buffer { IfSome result (λ s. s.buffer ≡ self.now.buffer) }
+        ensures length { IfSome result (λ s. s.length ≡ self.now.length) }
+        ensures extent { IfSome result (λ s. s.extent ≡ shape.now.extent) }
+        ensures extents { IfSome result (λ s. extents_of_spread s ≡ extents_of_shape shape.now) }
+        ensures places { IfSome result (λ s. places_of_spread s ≡
+            spread 0 (extents self.now) (extents_of_shape shape.now) (places self.now)) }
     {
         match broadcast(&self.shape(), shape) {
             Ok(joined) => if joined == *shape {

@@ -11,12 +11,20 @@ returns-clause-value c =
     let fits_stop : SFits w64 c.bound_of-stop.result = search rules in
     let fits_step : SFits w64 c.args.step = search rules in
     let is_most : c.from-most.result ≡ pos c.args.n = omega (arith, ints) in
-    let first : c.bound_of-start.result ≡ bound c.args.n (pos 0) c.from-most.result (pos 0) c.args.s.now.start = simp to_z-of_z at c.bound_of-start.ensures.value in
-    let last : c.bound_of-stop.result ≡ bound c.args.n (pos 0) c.from-most.result c.from-most.result c.args.s.now.stop = simp to_z-of_z at c.bound_of-stop.ensures.value in
-    let far : IsDistance c.bound_of-start.result c.bound_of-stop.result c.distance-far.result = simp to_z-of_z at c.distance-far.ensures in
+    let first : c.bound_of-start.result ≡ bound c.args.n (pos 0) c.from-most.result (pos 0) c.args.s.now.start =
+    simp to_z-of_z at c.bound_of-start.ensures.value in
+    let last : c.bound_of-stop.result ≡
+    bound c.args.n (pos 0) c.from-most.result c.from-most.result c.args.s.now.stop =
+    simp to_z-of_z at c.bound_of-stop.ensures.value in
+    let far : IsDistance c.bound_of-start.result c.bound_of-stop.result c.distance-far.result =
+    simp to_z-of_z at c.distance-far.ensures in
     let size : c.unsigned_abs.result ≡ unsigned_abs c.args.step = simp to_z-of_z at c.unsigned_abs.ensures.value in
-    rising-picks c.args.n _ c.bound_of-start.result c.bound_of-stop.result c.args.step c.distance-far.result c.unsigned_abs.result (to_z-of_z fits_start) (to_z-of_z fits_step) size
+    rising-picks c.args.n _ c.bound_of-start.result c.bound_of-stop.result c.args.step c.distance-far.result
+    c.unsigned_abs.result (to_z-of_z fits_start) (to_z-of_z fits_step) size
     c.steps_in-count.ensures.steps c.steps_in-count.ensures.few
-    (bound c.args.n (pos 0) (pos c.args.n) (pos 0) c.args.s.now.start) (bound c.args.n (pos 0) (pos c.args.n) (pos c.args.n) c.args.s.now.stop)
-    (first ∙ ap (λ (z : ℤ). bound c.args.n (pos 0) z (pos 0) c.args.s.now.start) is_most) (last ∙ ap (λ (z : ℤ). bound c.args.n (pos 0) z z c.args.s.now.stop) is_most)
-    c.requires.step far (omega (arith, ints, c.bound_of-start.ensures.least)) (omega (arith, ints, is_most, c.bound_of-stop.ensures.most))
+    (bound c.args.n (pos 0) (pos c.args.n) (pos 0) c.args.s.now.start)
+    (bound c.args.n (pos 0) (pos c.args.n) (pos c.args.n) c.args.s.now.stop)
+    (first ∙ ap (λ (z : ℤ). bound c.args.n (pos 0) z (pos 0) c.args.s.now.start) is_most)
+    (last ∙ ap (λ (z : ℤ). bound c.args.n (pos 0) z z c.args.s.now.stop) is_most)
+    c.requires.step far (omega (arith, ints, c.bound_of-start.ensures.least))
+    (omega (arith, ints, is_most, c.bound_of-stop.ensures.most))

@@ -7,14 +7,22 @@ use Rattle.view_places.proofs.strided.Strided.view.Goals as goal
 pub invariant_of-result-clause-within : goal.invariant_of-result-clause-within
 invariant_of-result-clause-within c =
     let fits : SFits w64 c.settled-offset.result.offset = search rules in
-    subst (λ (o : ℤ). LeadsWithin c.args.length (take c.args.self.now.rank c.args.self.now.extent) o c.settled-offset.result.stride) (sym (to_z-of_z fits)) (within-same c.args.length (take c.args.self.now.rank c.args.self.now.extent) c.args.self.now.offset c.settled-offset.result.offset c.args.self.now.stride c.settled-offset.result.stride c.settled-offset.ensures.same c.requires.within)
+    subst (λ (o : ℤ). LeadsWithin c.args.length
+    (take c.args.self.now.rank c.args.self.now.extent) o c.settled-offset.result.stride) (sym (to_z-of_z fits))
+    (within-same c.args.length (take c.args.self.now.rank c.args.self.now.extent) c.args.self.now.offset
+    c.settled-offset.result.offset c.args.self.now.stride c.settled-offset.result.stride
+    c.settled-offset.ensures.same c.requires.within)
 
 pub invariant_of-result-clause-apart : goal.invariant_of-result-clause-apart
 invariant_of-result-clause-apart c =
     let fits : SFits w64 c.settled-offset.result.offset = search rules in
-    subst (λ (o : ℤ). LeadsApart (take c.args.self.now.rank c.args.self.now.extent) o c.settled-offset.result.stride) (sym (to_z-of_z fits)) (apart-same c.args.length (take c.args.self.now.rank c.args.self.now.extent) c.args.self.now.offset c.settled-offset.result.offset c.args.self.now.stride c.settled-offset.result.stride c.settled-offset.ensures.same c.requires.apart)
+    subst (λ (o : ℤ). LeadsApart (take c.args.self.now.rank c.args.self.now.extent) o c.settled-offset.result.stride)
+    (sym (to_z-of_z fits)) (apart-same c.args.length
+    (take c.args.self.now.rank c.args.self.now.extent) c.args.self.now.offset c.settled-offset.result.offset
+    c.args.self.now.stride c.settled-offset.result.stride c.settled-offset.ensures.same c.requires.apart)
 
 pub returns-clause-places : goal.returns-clause-places
 returns-clause-places c =
     let fits : SFits w64 c.settled-offset.result.offset = search rules in
-    simp to_z-of_z (strided_same (take c.args.self.now.rank c.args.self.now.extent) c.settled-offset.result.offset c.args.self.now.offset c.settled-offset.result.stride c.args.self.now.stride c.settled-offset.ensures.same)
+    simp to_z-of_z (strided_same (take c.args.self.now.rank c.args.self.now.extent) c.settled-offset.result.offset
+    c.args.self.now.offset c.settled-offset.result.stride c.args.self.now.stride c.settled-offset.ensures.same)

@@ -9,8 +9,10 @@ pub spread_to-requires-clause-fits : goal.spread_to-requires-clause-fits
 spread_to-requires-clause-fits c =
     let same : c.in-Ok.joined ≡ c.args.shape.now = search rules in
     fits-joined (take c.args.self.now.rank c.args.self.now.extent) (take c.args.shape.now.rank c.args.shape.now.extent)
-    (ok-joined ((take c.args.self.now.rank c.args.self.now.extent) ∷ (take c.args.shape.now.rank c.args.shape.now.extent) ∷ []) (take c.args.shape.now.rank c.args.shape.now.extent)
-    (ap (λ (xs : List ℕ). broadcast_of (xs ∷ (take c.args.shape.now.rank c.args.shape.now.extent) ∷ [])) (sym c.shape.ensures.extents) ∙ c.in-Ok.ensures.value ∙ ap (λ (x : Shape). Ok (take x.rank x.extent)) same)).0
+    (ok-joined ((take c.args.self.now.rank c.args.self.now.extent) ∷
+    (take c.args.shape.now.rank c.args.shape.now.extent) ∷ []) (take c.args.shape.now.rank c.args.shape.now.extent)
+    (ap (λ (xs : List ℕ). broadcast_of (xs ∷ (take c.args.shape.now.rank c.args.shape.now.extent) ∷ []))
+    (sym c.shape.ensures.extents) ∙ c.in-Ok.ensures.value ∙ ap (λ (x : Shape). Ok (take x.rank x.extent)) same)).0
 
 pub returns-else-eq-clause-fits : goal.returns-else-eq-clause-fits
 returns-else-eq-clause-fits c =
@@ -20,5 +22,6 @@ returns-else-eq-clause-fits c =
           (other
           (shape-one c.in-Ok.joined c.args.shape.now c.in-Ok.ensures.shape c.requires (search rules) (search rules)
           (ok-same (take c.in-Ok.joined.rank c.in-Ok.joined.extent) (take c.args.shape.now.rank c.args.shape.now.extent)
-          (sym (ap (λ (xs : List ℕ). broadcast_of (xs ∷ (take c.args.shape.now.rank c.args.shape.now.extent) ∷ [])) (sym c.shape.ensures.extents) ∙ c.in-Ok.ensures.value) ∙ e)))),
+          (sym (ap (λ (xs : List ℕ). broadcast_of (xs ∷ (take c.args.shape.now.rank c.args.shape.now.extent) ∷ []))
+          (sym c.shape.ensures.extents) ∙ c.in-Ok.ensures.value) ∙ e)))),
     )
