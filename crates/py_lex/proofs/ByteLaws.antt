@@ -1,20 +1,22 @@
 -- Runs, line ends and comments, cut out of a text, are those of the text.
-use Rattle.std.proofs.Common.{◌≡◌, ℕ, zero, suc, ◌+◌, ◌-◌, ◌<◌, ◌≤◌, Bool, true, false, cond, eqb, ◌&&◌, [], ◌∷◌, length, take, slice_index, refl, ap, sym, subst, ◌∙◌, arith}
+use Rattle.std.proofs.Common.{◌≡◌, ℕ, zero, suc, ◌+◌, ◌-◌, ◌<◌, ◌≤◌, Bool, true, false, cond, eqb, ◌&&◌, [], ◌∷◌}
+use Rattle.std.proofs.Common.{length, take, slice_index, refl, ap, sym, subst, ◌∙◌, arith}
 use Rattle.std.proofs.lemmas.Bool.{false≢true, eqb-true}
 use Rattle.std.specs.List.{prefix_len, list_all}
 use Rattle.py_lex.specs.Bytes.{Bytes, line_end, before_line_end}
 use Rattle.py_lex.proofs.Choices.{by_test, and_true, and_right, and_false}
 
-prefix_len-yes : (p : ℕ → Bool) (b : ℕ) (z : Bytes) → p b ≡ true → prefix_len p (b ∷ z) ≡ suc (prefix_len p z)
+pub prefix_len-yes : (p : ℕ → Bool) (b : ℕ) (z : Bytes) → p b ≡ true → prefix_len p (b ∷ z) ≡ suc (prefix_len p z)
 prefix_len-yes p b z e =
     let more : 1 + prefix_len p z ≡ suc (prefix_len p z) = omega arith in
     ap (λ (v : Bool). cond v (1 + prefix_len p z) 0) e ∙ more
 
-prefix_len-no : (p : ℕ → Bool) (b : ℕ) (z : Bytes) → p b ≡ false → prefix_len p (b ∷ z) ≡ 0
+pub prefix_len-no : (p : ℕ → Bool) (b : ℕ) (z : Bytes) → p b ≡ false → prefix_len p (b ∷ z) ≡ 0
 prefix_len-no p b z e = ap (λ (v : Bool). cond v (1 + prefix_len p z) 0) e
 
 -- the bytes of a run of one set are in a larger one
-pub run_in : (p q : ℕ → Bool) → ((b : ℕ) → p b ≡ true → q b ≡ true) → (z : Bytes) → list_all q (take (prefix_len p z) z) ≡ true
+pub run_in : (p q : ℕ → Bool) → ((b : ℕ) → p b ≡ true → q b ≡ true) → (z : Bytes)
+    → list_all q (take (prefix_len p z) z) ≡ true
 run_in p q f [] = refl
 run_in p q f (b ∷ z) =
     let P : ℕ → Type 0 = λ n. list_all q (take n (b ∷ z)) ≡ true in
@@ -34,11 +36,14 @@ run_fits p (b ∷ z) =
     (λ e. omega (arith, prefix_len-no p b z e))
 
 -- the line end at the front, by its tests
-line_end-is : (b : ℕ) (z : Bytes) (v w : Bool) → eqb b 10 ≡ v → (eqb b 13 && eqb (slice_index z 0) 10) ≡ w → line_end (b ∷ z) ≡ cond v 1 (cond w 2 0)
+pub line_end-is : (b : ℕ) (z : Bytes) (v w : Bool) → eqb b 10 ≡ v → (eqb b 13 && eqb (slice_index z 0) 10) ≡ w
+    → line_end (b ∷ z) ≡ cond v 1 (cond w 2 0)
 line_end-is b z v w e f =
-    ap (λ (x : Bool). cond x 1 (cond (eqb b 13 && eqb (slice_index z 0) 10) 2 0)) e ∙ ap (λ (y : Bool). cond v 1 (cond y 2 0)) f
+    ap (λ (x : Bool). cond x 1 (cond (eqb b 13 && eqb (slice_index z 0) 10) 2 0)) e
+    ∙ ap (λ (y : Bool). cond v 1 (cond y 2 0)) f
 
-cr_lf-whole : (b : ℕ) (z : Bytes) → eqb b 10 ≡ false → (eqb b 13 && eqb (slice_index z 0) 10) ≡ true → line_end (take 2 (b ∷ z)) ≡ length (take 2 (b ∷ z))
+cr_lf-whole : (b : ℕ) (z : Bytes) → eqb b 10 ≡ false → (eqb b 13 && eqb (slice_index z 0) 10) ≡ true
+    → line_end (take 2 (b ∷ z)) ≡ length (take 2 (b ∷ z))
 cr_lf-whole b [] e f = absurd (false≢true (and_right (eqb b 13) false f))
 cr_lf-whole b (c ∷ z) e f = line_end-is b (c ∷ []) false true e f
 
@@ -65,13 +70,14 @@ line_end-fits (b ∷ z) =
     (λ f. let is : line_end (b ∷ z) ≡ 2 = line_end-is b z false true e f in omega (arith, is, cr_lf-fits b z f))
     (λ f. let is : line_end (b ∷ z) ≡ 0 = line_end-is b z false false e f in omega (arith, is)))
 
-no_cr_lf : (a : Bool) (z : Bytes) (n : ℕ) → (a && eqb (slice_index z 0) 10) ≡ false → (a && eqb (slice_index (take n z) 0) 10) ≡ false
+pub no_cr_lf : (a : Bool) (z : Bytes) (n : ℕ) → (a && eqb (slice_index z 0) 10) ≡ false
+    → (a && eqb (slice_index (take n z) 0) 10) ≡ false
 no_cr_lf a z zero f = and_false a false refl
 no_cr_lf a [] (suc n) f = and_false a false refl
 no_cr_lf a (c ∷ z) (suc n) f = f
 
 -- where no line ends, none ends in what is cut out either
-line_end-cut : (b : ℕ) (z : Bytes) (n : ℕ) → line_end (b ∷ z) ≡ 0 → line_end (b ∷ take n z) ≡ 0
+pub line_end-cut : (b : ℕ) (z : Bytes) (n : ℕ) → line_end (b ∷ z) ≡ 0 → line_end (b ∷ take n z) ≡ 0
 line_end-cut b z n none =
     by_test (eqb b 10)
     (λ e. let is : line_end (b ∷ z) ≡ 1 = line_end-is b z true _ e refl in absurd (omega (arith, is, none)))
@@ -79,13 +85,13 @@ line_end-cut b z n none =
     (λ f. let is : line_end (b ∷ z) ≡ 2 = line_end-is b z false true e f in absurd (omega (arith, is, none)))
     (λ f. line_end-is b (take n z) false false e (no_cr_lf (eqb b 13) z n f)))
 
-before-more : (b : ℕ) (z : Bytes) → line_end (b ∷ z) ≡ 0 → before_line_end (b ∷ z) ≡ suc (before_line_end z)
+pub before-more : (b : ℕ) (z : Bytes) → line_end (b ∷ z) ≡ 0 → before_line_end (b ∷ z) ≡ suc (before_line_end z)
 unfolding before_line_end
 before-more b z e =
     let more : before_line_end z + 1 ≡ suc (before_line_end z) = omega arith in
     ap (λ (n : ℕ). cond (eqb n 0) (before_line_end z + 1) 0) e ∙ more
 
-before-none : (b : ℕ) (z : Bytes) → eqb (line_end (b ∷ z)) 0 ≡ false → before_line_end (b ∷ z) ≡ 0
+pub before-none : (b : ℕ) (z : Bytes) → eqb (line_end (b ∷ z)) 0 ≡ false → before_line_end (b ∷ z) ≡ 0
 unfolding before_line_end
 before-none b z e = ap (λ (v : Bool). cond v (before_line_end z + 1) 0) e
 
@@ -100,7 +106,9 @@ before-whole (b ∷ z) =
     let P : ℕ → Type 0 = λ n. before_line_end (take n (b ∷ z)) ≡ length (take n (b ∷ z)) in
     by_test (eqb (line_end (b ∷ z)) 0)
     (λ e. let none : line_end (b ∷ z) ≡ 0 = eqb-true _ 0 e in
-    subst P (sym (before-more b z none)) (before-more b (take (before_line_end z) z) (line_end-cut b z (before_line_end z) none) ∙ ap suc (before-whole z)))
+    subst P (sym (before-more b z none))
+    (before-more b (take (before_line_end z) z) (line_end-cut b z (before_line_end z) none)
+    ∙ ap suc (before-whole z)))
     (λ e. subst P (sym (before-none b z e)) before-nil)
 
 pub before-fits : (z : Bytes) → before_line_end z ≤ length z

@@ -1,5 +1,5 @@
 -- Choices by tests.
-use Rattle.std.proofs.Common.{◌≡◌, Bool, true, false, cond, ◌&&◌, ◌||◌, not, refl}
+use Rattle.std.proofs.Common.{◌≡◌, Bool, true, false, cond, ◌&&◌, ◌||◌, not, refl, sym, ◌∙◌}
 use Rattle.std.proofs.lemmas.Bool.{false≢true}
 
 -- a choice has what both its sides have
@@ -34,6 +34,14 @@ or_left false b e = absurd (false≢true e)
 pub or_right : (a b : Bool) → b ≡ true → (a || b) ≡ true
 or_right true b e = refl
 or_right false b e = e
+
+pub or_first : (a b : Bool) → b ≡ false → (a || b) ≡ true → a ≡ true
+or_first true b e h = refl
+or_first false b e h = absurd (false≢true (sym e ∙ h))
+
+pub or_second : (a b : Bool) → a ≡ false → (a || b) ≡ true → b ≡ true
+or_second true b e h = absurd (false≢true (sym e))
+or_second false b e h = h
 
 pub not_true : (a : Bool) → a ≡ false → not a ≡ true
 not_true true e = absurd (false≢true (cc))

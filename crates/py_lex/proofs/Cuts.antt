@@ -1,5 +1,6 @@
 -- The pieces of a text are the one at its front and those of what is left.
-use Rattle.std.proofs.Common.{◌≡◌, ℕ, zero, suc, ◌-◌, ◌<◌, ◌≤◌, [], ◌∷◌, length, take, drop, refl, ap, sym, ◌∙◌, arith, Ok, Err}
+use Rattle.std.proofs.Common.{◌≡◌, ℕ, zero, suc, ◌-◌, ◌<◌, ◌≤◌, [], ◌∷◌, length, take, drop, refl, ap, sym, ◌∙◌, arith}
+use Rattle.std.proofs.Common.{Ok, Err}
 use Rattle.py_lex.specs.Bytes.{Bytes}
 use Rattle.krn_base.specs.declared.place.Loc.{Loc}
 use Rattle.krn_base.specs.declared.refusal.Stop.{Stop}
@@ -28,7 +29,8 @@ pieces-cut (b ∷ z) some moves =
     (pieces_from-drop ((piece (b ∷ z)).len - 1) z ∙ ap pieces (drop-cons (piece (b ∷ z)).len b z moves))
 
 -- a step over the piece at the front, and those over what is left
-pub layout-cut : (z : Bytes) (p : Piece) (s t : State) → p ≡ piece z → 0 < length z → 1 ≤ p.len → step p.class (take p.len z) s ≡ Ok t
+pub layout-cut : (z : Bytes) (p : Piece) (s t : State) → p ≡ piece z → 0 < length z → 1 ≤ p.len
+    → step p.class (take p.len z) s ≡ Ok t
     → layout (pieces z) s ≡ layout (pieces (drop p.len z)) t
 unfolding layout
 layout-cut z p s t is some moves e =
@@ -36,7 +38,8 @@ layout-cut z p s t is some moves e =
     ∙ ap (λ (q : Piece). layout ((q.class, take q.len z) ∷ pieces (drop q.len z)) s) (sym is)
     ∙ ap (λ (o : Outcome). and_then o (layout (pieces (drop p.len z)))) e
 
-pub layout-refused : (z : Bytes) (p : Piece) (s : State) (at : Loc) → p ≡ piece z → 0 < length z → 1 ≤ p.len → step p.class (take p.len z) s ≡ Err at
+pub layout-refused : (z : Bytes) (p : Piece) (s : State) (at : Loc) → p ≡ piece z → 0 < length z → 1 ≤ p.len
+    → step p.class (take p.len z) s ≡ Err at
     → layout (pieces z) s ≡ Err at
 unfolding layout
 layout-refused z p s at is some moves e =
@@ -51,7 +54,8 @@ layout-end [] s is = refl
 layout-end (b ∷ z) s is = absurd (omega (arith, is))
 
 -- a refusal of one call is that of another
-pub steps-refused : (A B : Type 0) (o o' : Outcome) (stop : Stop) (s t : State) → ((at : Loc) → o ≡ Err at → o' ≡ Err at)
+pub steps-refused : (A B : Type 0) (o o' : Outcome) (stop : Stop) (s t : State)
+    → ((at : Loc) → o ≡ Err at → o' ≡ Err at)
     → Steps {A = A} o (Err stop) s → Steps {A = B} o' (Err stop) t
 steps-refused A B o o' (Refused r) s t f h = (h.0, f r.loc h.1)
 steps-refused A B o o' Memory s t f h = tt

@@ -1,9 +1,15 @@
 pub mod Answered
+pub mod BlockLaws
 pub mod ByteLaws
 pub mod Choices
 pub mod Cuts
 pub mod GoodLaws
+pub mod FrontLaws
+pub mod KeptLaws
+pub mod LaidLaws
 pub mod LexedLaws
+pub mod LongestLaws
+pub mod MarginLaws
 pub mod Numbers
 pub mod PieceLaws
 pub mod TextLaws

@@ -1,5 +1,6 @@
 -- A text in quotes, cut out of a source, is one.
-use Rattle.std.proofs.Common.{◌≡◌, ℕ, zero, suc, ◌+◌, ◌-◌, ◌≤◌, Bool, true, false, cond, eqb, ◌&&◌, List, [], ◌∷◌, length, take, drop, nat_eq, Some, None, refl, ap, sym, ◌∙◌, arith}
+use Rattle.std.proofs.Common.{◌≡◌, ℕ, zero, suc, ◌+◌, ◌-◌, ◌≤◌, Bool, true, false, cond, eqb, ◌&&◌, List, [], ◌∷◌}
+use Rattle.std.proofs.Common.{length, take, drop, nat_eq, Some, None, refl, ap, sym, ◌∙◌, arith}
 use Rattle.std.proofs.lemmas.Bool.{false≢true, eq-eqb}
 use Rattle.std.specs.List.{starts_with, AllByRecursion}
 use Rattle.py_lex.specs.Bytes.{Bytes}
@@ -8,10 +9,10 @@ use Rattle.py_lex.proofs.Choices.{by_test, and_true, and_left, and_right}
 use Rattle.py_lex.proofs.ByteLaws.{length-take-fits}
 use Rattle.py_lex.proofs.WordLaws.{starts-fits}
 
-none-some : (n : ℕ) {P : Type 0} → None ≡ Some n → P
+pub none-some : (n : ℕ) {P : Type 0} → None ≡ Some n → P
 none-some n e = cc
 
-some-same : (a b : ℕ) → Some a ≡ Some b → a ≡ b
+pub some-same : (a b : ℕ) → Some a ≡ Some b → a ≡ b
 some-same a b e = cc
 
 -- what a prefix begins with, the text does
@@ -19,31 +20,39 @@ starts-take : (w x : Bytes) (m : ℕ) → starts_with nat_eq (take m x) w ≡ tr
 starts-take [] x m h = refl
 starts-take (a ∷ w) x zero h = absurd (false≢true h)
 starts-take (a ∷ w) [] (suc m) h = h
-starts-take (a ∷ w) (b ∷ x) (suc m) h = and_true (nat_eq a b) _ (and_left _ _ h) (starts-take w x m (and_right (nat_eq a b) _ h))
+starts-take (a ∷ w) (b ∷ x) (suc m) h =
+    and_true (nat_eq a b) _ (and_left _ _ h) (starts-take w x m (and_right (nat_eq a b) _ h))
 
 -- a prefix that is long enough begins as the text does
-starts-kept : (w x : Bytes) (m : ℕ) → length w ≤ m → starts_with nat_eq x w ≡ true → starts_with nat_eq (take m x) w ≡ true
+pub starts-kept : (w x : Bytes) (m : ℕ) → length w ≤ m → starts_with nat_eq x w ≡ true
+    → starts_with nat_eq (take m x) w ≡ true
 starts-kept [] x m le h = refl
 starts-kept (a ∷ w) x zero le h = absurd (omega arith)
 starts-kept (a ∷ w) [] (suc m) le h = h
-starts-kept (a ∷ w) (b ∷ x) (suc m) le h = and_true (nat_eq a b) _ (and_left _ _ h) (starts-kept w x m (omega arith) (and_right (nat_eq a b) _ h))
+starts-kept (a ∷ w) (b ∷ x) (suc m) le h =
+    and_true (nat_eq a b) _ (and_left _ _ h) (starts-kept w x m (omega arith) (and_right (nat_eq a b) _ h))
 
-starts-not : (w x : Bytes) (m : ℕ) → starts_with nat_eq x w ≡ false → starts_with nat_eq (take m x) w ≡ false
+pub starts-not : (w x : Bytes) (m : ℕ) → starts_with nat_eq x w ≡ false → starts_with nat_eq (take m x) w ≡ false
 starts-not w x m h =
     by_test (starts_with nat_eq (take m x) w)
     (λ e. absurd (false≢true (sym h ∙ starts-take w x m e)))
     (λ e. e)
 
 -- one byte of a text, by its tests
-closed-at : (quotes : Bytes) (at b : ℕ) (z : Bytes) (v w : Bool) → starts_with nat_eq (b ∷ z) quotes ≡ v → (eqb b 10 && eqb (length quotes) 1) ≡ w
-    → closed quotes 0 at (b ∷ z) ≡ cond v (Some (at + length quotes)) (cond w None (closed quotes (cond (eqb b 92) 1 0) (at + 1) z))
+pub closed-at : (quotes : Bytes) (at b : ℕ) (z : Bytes) (v w : Bool) → starts_with nat_eq (b ∷ z) quotes ≡ v
+    → (eqb b 10 && eqb (length quotes) 1) ≡ w
+    → closed quotes 0 at (b ∷ z) ≡ cond v (Some (at + length quotes))
+    (cond w None (closed quotes (cond (eqb b 92) 1 0) (at + 1) z))
 unfolding closed
 closed-at quotes at b z v w e f =
-    ap (λ (x : Bool). cond x (Some (at + length quotes)) (cond (eqb b 10 && eqb (length quotes) 1) None (closed quotes (cond (eqb b 92) 1 0) (at + 1) z))) e
-    ∙ ap (λ (y : Bool). cond v (Some (at + length quotes)) (cond y None (closed quotes (cond (eqb b 92) 1 0) (at + 1) z))) f
+    ap (λ (x : Bool). cond x (Some (at + length quotes))
+    (cond (eqb b 10 && eqb (length quotes) 1) None (closed quotes (cond (eqb b 92) 1 0) (at + 1) z))) e
+    ∙ ap (λ (y : Bool). cond v (Some (at + length quotes))
+    (cond y None (closed quotes (cond (eqb b 92) 1 0) (at + 1) z))) f
 
 -- the quotes stand behind what has been passed, and within the text
-pub closed-within : (quotes : Bytes) (taken at : ℕ) (z : Bytes) (n : ℕ) → closed quotes taken at z ≡ Some n → (at ≤ n) × (n ≤ at + length z)
+pub closed-within : (quotes : Bytes) (taken at : ℕ) (z : Bytes) (n : ℕ) → closed quotes taken at z ≡ Some n
+    → (at ≤ n) × (n ≤ at + length z)
 unfolding closed
 closed-within quotes taken at [] n e = none-some n e
 closed-within quotes (suc taken) at (b ∷ z) n e =
@@ -55,38 +64,48 @@ closed-within quotes zero at (b ∷ z) n e =
     (omega (arith, is), omega (arith, is, starts-fits (b ∷ z) quotes v)))
     (λ v. by_test (eqb b 10 && eqb (length quotes) 1)
     (λ w. none-some n (sym (closed-at quotes at b z false true v w) ∙ e))
-    (λ w. let more = closed-within quotes (cond (eqb b 92) 1 0) (at + 1) z n (sym (closed-at quotes at b z false false v w) ∙ e) in
+    (λ w. let more = closed-within quotes (cond (eqb b 92) 1 0) (at + 1) z n
+    (sym (closed-at quotes at b z false false v w) ∙ e) in
     (omega (arith, more.0), omega (arith, more.1))))
 
--- the quotes close the text that ends behind them too
-closed-cut : (quotes : Bytes) (taken at : ℕ) (z : Bytes) (m : ℕ) → 1 ≤ length quotes → closed quotes taken at z ≡ Some (at + m) → closed quotes taken at (take m z) ≡ Some (at + m)
+-- the quotes close each part of the text that goes on to them
+closed-kept : (quotes : Bytes) (taken at : ℕ) (z : Bytes) (n m : ℕ) → 1 ≤ length quotes → n ≤ m
+    → closed quotes taken at z ≡ Some (at + n) → closed quotes taken at (take m z) ≡ Some (at + n)
 unfolding closed
-closed-cut quotes taken at [] m some e = none-some (at + m) e
-closed-cut quotes (suc taken) at (b ∷ z) zero some e = absurd (omega (arith, (closed-within quotes taken (at + 1) z (at + 0) e).0))
-closed-cut quotes (suc taken) at (b ∷ z) (suc m) some e =
-    let moved : at + suc m ≡ at + 1 + m = omega arith in
-    closed-cut quotes taken (at + 1) z m some (e ∙ ap Some moved) ∙ ap Some (sym moved)
-closed-cut quotes zero at (b ∷ z) zero some e =
+closed-kept quotes taken at [] n m some le e = none-some (at + n) e
+closed-kept quotes taken at (b ∷ z) (suc n) zero some le e = absurd (omega arith)
+closed-kept quotes (suc taken) at (b ∷ z) zero m some le e =
+    absurd (omega (arith, (closed-within quotes taken (at + 1) z (at + 0) e).0))
+closed-kept quotes (suc taken) at (b ∷ z) (suc n) (suc m) some le e =
+    let moved : at + suc n ≡ at + 1 + n = omega arith in
+    closed-kept quotes taken (at + 1) z n m some (omega arith) (e ∙ ap Some moved) ∙ ap Some (sym moved)
+closed-kept quotes zero at (b ∷ z) zero m some le e =
     by_test (starts_with nat_eq (b ∷ z) quotes)
-    (λ v. absurd (omega (arith, some, some-same (at + length quotes) (at + 0) (sym (closed-at quotes at b z true _ v refl) ∙ e))))
+    (λ v.
+    let is : at + length quotes ≡ at + 0 = some-same _ _ (sym (closed-at quotes at b z true _ v refl) ∙ e) in
+    absurd (omega (arith, some, is)))
     (λ v. by_test (eqb b 10 && eqb (length quotes) 1)
     (λ w. none-some (at + 0) (sym (closed-at quotes at b z false true v w) ∙ e))
-    (λ w. absurd (omega (arith, (closed-within quotes (cond (eqb b 92) 1 0) (at + 1) z (at + 0) (sym (closed-at quotes at b z false false v w) ∙ e)).0))))
-closed-cut quotes zero at (b ∷ z) (suc m) some e =
+    (λ w.
+    let again = sym (closed-at quotes at b z false false v w) ∙ e in
+    absurd (omega (arith, (closed-within quotes (cond (eqb b 92) 1 0) (at + 1) z (at + 0) again).0))))
+closed-kept quotes zero at (b ∷ z) (suc n) (suc m) some le e =
     by_test (starts_with nat_eq (b ∷ z) quotes)
-    (λ v. let is : at + length quotes ≡ at + suc m = some-same _ _ (sym (closed-at quotes at b z true _ v refl) ∙ e) in
-    closed-at quotes at b (take m z) true _ (starts-kept quotes (b ∷ z) (suc m) (omega (arith, is)) v) refl ∙ ap Some is)
+    (λ v. let is : at + length quotes ≡ at + suc n = some-same _ _ (sym (closed-at quotes at b z true _ v refl) ∙ e) in
+    closed-at quotes at b (take m z) true _ (starts-kept quotes (b ∷ z) (suc m) (omega (arith, is)) v) refl
+    ∙ ap Some is)
     (λ v. by_test (eqb b 10 && eqb (length quotes) 1)
-    (λ w. none-some (at + suc m) (sym (closed-at quotes at b z false true v w) ∙ e))
-    (λ w. let moved : at + suc m ≡ at + 1 + m = omega arith in
+    (λ w. none-some (at + suc n) (sym (closed-at quotes at b z false true v w) ∙ e))
+    (λ w. let moved : at + suc n ≡ at + 1 + n = omega arith in
     closed-at quotes at b (take m z) false false (starts-not quotes (b ∷ z) (suc m) v) w
-    ∙ closed-cut quotes (cond (eqb b 92) 1 0) (at + 1) z m some (sym (closed-at quotes at b z false false v w) ∙ e ∙ ap Some moved) ∙ ap Some (sym moved)))
+    ∙ closed-kept quotes (cond (eqb b 92) 1 0) (at + 1) z n m some (omega arith)
+    (sym (closed-at quotes at b z false false v w) ∙ e ∙ ap Some moved) ∙ ap Some (sym moved)))
 
 take-nil : (n : ℕ) → take {A = ℕ} n [] ≡ []
 take-nil zero = refl
 take-nil (suc n) = refl
 
-drop-take : (l n : ℕ) (z : Bytes) → drop l (take n z) ≡ take (n - l) (drop l z)
+pub drop-take : (l n : ℕ) (z : Bytes) → drop l (take n z) ≡ take (n - l) (drop l z)
 drop-take zero n z = let e : n ≡ n - 0 = omega arith in ap (λ k. take k z) e
 drop-take (suc l) zero z = let e : 0 ≡ 0 - suc l = omega arith in ap (λ k. take k (drop (suc l) z)) e
 drop-take (suc l) (suc n) [] = sym (take-nil (suc n - suc l))
@@ -102,13 +121,15 @@ length-drop-is (suc n) (b ∷ z) = omega (arith, length-drop-is n z)
 pub record Closes (words : List Bytes) (z : Bytes) (n : ℕ) : Type 0 where
   pub moves : 1 ≤ n
   pub within : n ≤ length z
-  pub again : text_by words (take n z) ≡ Some n
+  pub again : (m : ℕ) → n ≤ m → text_by words (take m z) ≡ Some n
 
-text_by-is : (word : Bytes) (words : List Bytes) (z : Bytes) (v : Bool) → starts_with nat_eq z word ≡ v
+pub text_by-is : (word : Bytes) (words : List Bytes) (z : Bytes) (v : Bool) → starts_with nat_eq z word ≡ v
     → text_by (word ∷ words) z ≡ cond v (closed word 0 (length word) (drop (length word) z)) (text_by words z)
-text_by-is word words z v e = ap (λ (x : Bool). cond x (closed word 0 (length word) (drop (length word) z)) (text_by words z)) e
+text_by-is word words z v e =
+    ap (λ (x : Bool). cond x (closed word 0 (length word) (drop (length word) z)) (text_by words z)) e
 
-closes : (words : List Bytes) (z : Bytes) (n : ℕ) → AllByRecursion (λ word. 1 ≤ length word) words → text_by words z ≡ Some n → Closes words z n
+closes : (words : List Bytes) (z : Bytes) (n : ℕ) → AllByRecursion (λ word. 1 ≤ length word) words
+    → text_by words z ≡ Some n → Closes words z n
 closes [] z n some e = none-some n e
 closes (word ∷ words) z n some e =
     by_test (starts_with nat_eq z word)
@@ -117,18 +138,21 @@ closes (word ∷ words) z n some e =
     let is : closed word 0 l (drop l z) ≡ Some n = sym (text_by-is word words z true v) ∙ e in
     let in_range = closed-within word 0 l (drop l z) n is in
     let more : n ≡ l + (n - l) = omega (arith, in_range.0) in
-    let cut : closed word 0 l (take (n - l) (drop l z)) ≡ Some (l + (n - l)) = closed-cut word 0 l (drop l z) (n - l) some.0 (is ∙ ap Some more) in
     record {
       moves = omega (arith, some.0, in_range.0);
       within = omega (arith, in_range.1, length-drop-is l z, starts-fits z word v);
-      again = text_by-is word words (take n z) true (starts-kept word z n in_range.0 v) ∙ ap (closed word 0 l) (drop-take l n z) ∙ cut ∙ ap Some (sym more);
+      again = λ m le.
+          text_by-is word words (take m z) true (starts-kept word z m (omega (arith, in_range.0)) v)
+          ∙ ap (closed word 0 l) (drop-take l m z)
+          ∙ closed-kept word 0 l (drop l z) (n - l) (m - l) some.0 (omega arith) (is ∙ ap Some more)
+          ∙ ap Some (sym more);
     })
     (λ v.
     let rest = closes words z n some.1 (sym (text_by-is word words z false v) ∙ e) in
     record {
       moves = rest.moves;
       within = rest.within;
-      again = text_by-is word words (take n z) false (starts-not word z n v) ∙ rest.again;
+      again = λ m le. text_by-is word words (take m z) false (starts-not word z m v) ∙ rest.again m le;
     })
 
 text-closes : (z : Bytes) (n : ℕ) → text_len z ≡ Some n → Closes quotings z n
@@ -145,4 +169,10 @@ pub text-spells : (z : Bytes) (n : ℕ) → text_len z ≡ Some n → is_text (t
 unfolding text_len
 text-spells z n e =
     let c = text-closes z n e in
-    ap (λ o. is_length o (length (take n z))) c.again ∙ eq-eqb n _ (sym (length-take-fits n z c.within))
+    ap (λ o. is_length o (length (take n z))) (c.again n (omega arith))
+    ∙ eq-eqb n _ (sym (length-take-fits n z c.within))
+
+-- and as much of the text as goes on to them begins with the same text
+pub text-kept : (z : Bytes) (n m : ℕ) → text_len z ≡ Some n → n ≤ m → text_len (take m z) ≡ Some n
+unfolding text_len
+text-kept z n m e le = (text-closes z n e).again m le

@@ -1,5 +1,7 @@
 -- What is cut out as a name, a number, an operator or a text is one.
-use Rattle.std.proofs.Common.{◌≡◌, ℕ, zero, suc, ◌-◌, ◌^◌, ◌<◌, ◌≤◌, ◌⊎◌, inl, inr, Bool, true, false, cond, eqb, not, List, [], ◌∷◌, length, take, slice_index, max, nat_eq, nat_le, Option, Some, None, refl, ap, sym, subst, ◌∙◌, arith}
+use Rattle.std.proofs.Common.{◌≡◌, ℕ, zero, suc, ◌-◌, ◌^◌, ◌<◌, ◌≤◌, ◌⊎◌, inl, inr, Bool, true, false, cond, eqb, not}
+use Rattle.std.proofs.Common.{List, [], ◌∷◌, length, take, slice_index, max, nat_eq, nat_le, Option, Some, None, refl}
+use Rattle.std.proofs.Common.{ap, sym, subst, ◌∙◌, arith}
 use Rattle.std.proofs.lemmas.Bool.{false≢true, eqb-true, eq-eqb, ltb-true}
 use Rattle.std.proofs.lemmas.Bool.Decides.{nat_tests}
 use Rattle.std.proofs.lemmas.Slice.Eq.{bytes_eq-Decides}
@@ -22,16 +24,19 @@ number-spells text e = in_range-some (number_value text) e
 nonempty : (b : ℕ) (z : Bytes) → eqb (length (b ∷ z)) 0 ≡ false
 nonempty b z = by_test (eqb (length (b ∷ z)) 0) (λ e. absurd (omega (arith, eqb-true (length (b ∷ z)) 0 e))) (λ e. e)
 
-pub name-spells : (z : Bytes) → 0 < length z → is_in Word (slice_index z 0) ≡ true → is_in Digit (slice_index z 0) ≡ false → is_name (take (run Word z) z) ≡ true
+pub name-spells : (z : Bytes) → 0 < length z → is_in Word (slice_index z 0) ≡ true
+    → is_in Digit (slice_index z 0) ≡ false → is_name (take (run Word z) z) ≡ true
 unfolding is_name
 name-spells [] some w d = absurd (omega arith)
 name-spells (b ∷ z) some w d =
     let n : ℕ = run Word (b ∷ z) in
     let cut = take-first b n z (run_some (is_in Word) (b ∷ z) some w) in
     let P : Bytes → Type 0 = λ t. are_in Word t ≡ true in
-    let all : are_in Word (b ∷ take (n - 1) z) ≡ true = subst P cut (run_in (is_in Word) (is_in Word) (λ c e. e) (b ∷ z)) in
+    let all : are_in Word (b ∷ take (n - 1) z) ≡ true =
+    subst P cut (run_in (is_in Word) (is_in Word) (λ c e. e) (b ∷ z)) in
     let Q : Bytes → Type 0 = λ t. is_name t ≡ true in
-    subst Q (sym cut) (and_true (not (eqb (length (b ∷ take (n - 1) z)) 0)) _ (not_true _ (nonempty b (take (n - 1) z))) (and_true (not (is_in Digit b)) _ (not_true _ d) all))
+    subst Q (sym cut) (and_true (not (eqb (length (b ∷ take (n - 1) z)) 0)) _
+    (not_true _ (nonempty b (take (n - 1) z))) (and_true (not (is_in Digit b)) _ (not_true _ d) all))
 
 -- a text that begins with a word
 pub starts-is : (z word : Bytes) → starts_with nat_eq z word ≡ true → word ≡ take (length word) z
@@ -51,7 +56,8 @@ max-case a b =
     (λ e. inr (grind (arith, nat_tests)))
     (λ e. inl (grind (arith, nat_tests)))
 
-longest-is : (words : List Bytes) (z : Bytes) → (longest words z ≡ 0) ⊎ (list_any (bytes_eq (take (longest words z) z)) words ≡ true)
+longest-is : (words : List Bytes) (z : Bytes)
+    → (longest words z ≡ 0) ⊎ (list_any (bytes_eq (take (longest words z) z)) words ≡ true)
 longest-is [] z = inl refl
 longest-is (word ∷ words) z =
     let a : ℕ = cond (starts_with nat_eq z word) (length word) 0 in
@@ -60,21 +66,25 @@ longest-is (word ∷ words) z =
     elim (max-case a b) [
       | inl e ↦ subst P (sym e) (by_test (starts_with nat_eq z word)
           (λ s. let is : a ≡ length word = ap (λ (v : Bool). cond v (length word) 0) s in
-          subst P (sym is) (inr (or_left _ _ ((bytes_eq-Decides (take (length word) z) word).1 (sym (starts-is z word s))))))
+          subst P (sym is) (inr
+          (or_left _ _ ((bytes_eq-Decides (take (length word) z) word).1 (sym (starts-is z word s))))))
           (λ s. inl (ap (λ (v : Bool). cond v (length word) 0) s)))
-      | inr e ↦ subst P (sym e) (elim (longest-is words z) [ inl h ↦ inl h | inr h ↦ inr (or_right (bytes_eq (take b z) word) _ h) ])
+      | inr e ↦ subst P (sym e)
+          (elim (longest-is words z) [ inl h ↦ inl h | inr h ↦ inr (or_right (bytes_eq (take b z) word) _ h) ])
     ]
 
 pub longest-fits : (words : List Bytes) (z : Bytes) → longest words z ≤ length z
 longest-fits [] z = omega arith
 longest-fits (word ∷ words) z =
     by_test (starts_with nat_eq z word)
-    (λ s. let is : cond (starts_with nat_eq z word) (length word) 0 ≡ length word = ap (λ (v : Bool). cond v (length word) 0) s in
+    (λ s. let is : cond (starts_with nat_eq z word) (length word) 0 ≡ length word = ap
+    (λ (v : Bool). cond v (length word) 0) s in
     omega (arith, is, starts-fits z word s, longest-fits words z))
     (λ s. let is : cond (starts_with nat_eq z word) (length word) 0 ≡ 0 = ap (λ (v : Bool). cond v (length word) 0) s in
     omega (arith, is, longest-fits words z))
 
-pub operator-spells : (z : Bytes) → eqb (longest operators z) 0 ≡ false → is_operator (take (longest operators z) z) ≡ true
+pub operator-spells : (z : Bytes) → eqb (longest operators z) 0 ≡ false
+    → is_operator (take (longest operators z) z) ≡ true
 unfolding is_operator
 operator-spells z some =
     elim (longest-is operators z) [

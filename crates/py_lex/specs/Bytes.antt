@@ -1,5 +1,5 @@
--- The bytes of a source, and where its lines end. Python's language reference, "Lexical analysis", with ASCII alone outside
--- comments and texts.
+-- The bytes of a source, and where its lines end. Python's language reference, "Lexical analysis", with ASCII alone
+-- outside comments and texts.
 use Rattle.std.specs.Prelude.{ℕ, ◌+◌, Bool, ◌||◌, ◌&&◌, List, [], ◌∷◌, ◌==◌, if◌then◌else◌, slice_index}
 use Rattle.std.specs.List.{prefix_len, list_all}
 use Rattle.std.specs.Char.{is_ascii_digit, is_ascii_hexdigit, is_ascii_alphanumeric}

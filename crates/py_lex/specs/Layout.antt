@@ -1,5 +1,9 @@
 -- The tokens of a source: its pieces, laid out in lines and blocks. Python's language reference, "Lexical analysis".
-use Rattle.std.specs.Prelude.{ℕ, suc, zero, ◌+◌, ◌-◌, ◌≤◌, List, [], ◌∷◌, ◌++◌, ◌==◌, nat_lt, nat_le, if◌then◌else◌, slice_index, length, take, count_by, codes, Some, None, Result, Ok, Err}
+--
+-- Most of this mirrors the crate's own functions, one definition for each. What holds of the list, whatever the order
+-- in which it is made, is said in `Lexed` and `Laws`.
+use Rattle.std.specs.Prelude.{ℕ, suc, zero, ◌+◌, ◌-◌, ◌≤◌, List, [], ◌∷◌, ◌++◌, ◌==◌, nat_lt, nat_le, if◌then◌else◌}
+use Rattle.std.specs.Prelude.{slice_index, length, take, count_by, codes, Some, None, Result, Ok, Err}
 use Rattle.krn_base.specs.declared.place.Loc.{Loc}
 use Rattle.py_lex.specs.declared.token.TokenKind.{TokenKind}
 use Rattle.py_lex.specs.declared.token.TokenKind.TheVariants as k
@@ -22,7 +26,11 @@ start = record { offset = 0; loc = record { line = 1; col = 1 } }
 -- The place behind a byte. Lines are counted by LF (10), columns in bytes.
 abbrev pub behind : Place → ℕ → Place
 behind p b =
-    record { offset = p.offset + 1; loc = if b == 10 then record { line = p.loc.line + 1; col = 1 } else record { line = p.loc.line; col = p.loc.col + 1 } }
+    record {
+      offset = p.offset + 1;
+      loc = if b == 10 then record { line = p.loc.line + 1; col = 1 } else record
+          { line = p.loc.line; col = p.loc.col + 1 };
+    }
 
 -- the place behind these bytes
 unfoldable pub passed : Place → Bytes → Place
@@ -34,8 +42,8 @@ pub record IsNear (p : Place) : Type 0 where
   pub line : p.loc.line ≤ p.offset + 1
   pub col : p.loc.col ≤ p.offset + 1
 
--- what has been read of a source: the place behind it, the brackets that are open, how far the line has come, the indentations
--- that are open, the least first, and the tokens and notes
+-- what has been read of a source: the place behind it, the brackets that are open, how far the line has come, the
+-- indentations that are open, the least first, and the tokens and notes
 pub record State : Type 0 where
   pub place : Place
   pub depth : ℕ
@@ -93,7 +101,8 @@ dedented n s =
     then and_then (put_dedents (length s.indents - count) s) (λ t. Ok (with_indents (take count t.indents) t))
     else Err s.place.loc
 
--- before the first token of a line that stands behind n spaces: an Indent where that is more than the last number, else Dedents
+-- before the first token of a line that stands behind n spaces: an Indent where that is more than the last number, else
+-- Dedents
 unfoldable pub indented : ℕ → State → Outcome
 indented n s =
     if nat_lt (last_of s.indents) n

@@ -1,5 +1,6 @@
 -- What the tokens of a source are to those who read them: the list of the definition, with the laws that hold of it.
-use Rattle.std.specs.Prelude.{◌≡◌, ◌≢◌, ℕ, ◌^◌, ◌<◌, ◌≤◌, false, ◌⊎◌, List, [], ◌∷◌, IsTrue, length, take, drop, Some, Result, Ok, Err}
+use Rattle.std.specs.Prelude.{◌≡◌, ◌≢◌, ℕ, ◌^◌, ◌<◌, ◌≤◌, false, ◌⊎◌, List, [], ◌∷◌, IsTrue, length, take, drop, Some}
+use Rattle.std.specs.Prelude.{Result, Ok, Err}
 use Rattle.std.specs.List.{AllByRecursion, slice_range, flat_map}
 use Rattle.krn_base.specs.declared.refusal.Stop.{Stop}
 use Rattle.krn_base.specs.declared.refusal.Stop.TheVariants.{Refused, Memory}
@@ -52,8 +53,8 @@ EndsOnce (t ∷ u ∷ ts) = (t.kind ≢ k.End) × EndsOnce (u ∷ ts)
 abbrev pub IsNoteAlone : List Token → List Token → Type 0
 IsNoteAlone tokens notes = AllByRecursion (λ t. t.kind ≢ k.Note) tokens × AllByRecursion (λ t. t.kind ≡ k.Note) notes
 
--- What may stand between tokens: blanks, a line end, a `\` (92) with a line end or the end of the source behind it, a comment
--- (35 is `#`), which holds no line end.
+-- What may stand between tokens: blanks, a line end, a `\` (92) with a line end or the end of the source behind it, a
+-- comment (35 is `#`), which holds no line end.
 abbrev pub IsFiller : Bytes → Type 0
 IsFiller z =
     IsTrue (are_in Blank z)

@@ -1,5 +1,6 @@
--- The pieces of a source, by longest match and without any state.
-use Rattle.std.specs.Prelude.{ℕ, suc, zero, ◌+◌, ◌-◌, not, ◌||◌, List, [], ◌∷◌, ◌==◌, if◌then◌else◌, slice_index, length, take, drop, Option, Some, None}
+-- The pieces of a source, by longest match and without any state. `joined` to `mark` mirror the crate's own functions.
+use Rattle.std.specs.Prelude.{ℕ, suc, zero, ◌+◌, ◌-◌, not, ◌||◌, List, [], ◌∷◌, ◌==◌, if◌then◌else◌, slice_index}
+use Rattle.std.specs.Prelude.{length, take, drop, Option, Some, None}
 use Rattle.py_lex.specs.declared.bytes.Set.TheVariants.{Space, Tab, Digit, Word, Number}
 use Rattle.py_lex.specs.declared.token.TokenKind.TheVariants as k
 use Rattle.py_lex.specs.declared.piece.Piece.{Piece}
@@ -13,7 +14,8 @@ piece_of class len = record { class = class; len = len }
 
 -- a `\` joins where a line end follows it, and stands at the end of the source
 abbrev pub joined : Bytes → Piece
-joined z = if length z == 1 || not (line_end (drop 1 z) == 0) then piece_of Join (1 + line_end (drop 1 z)) else piece_of Bad 1
+joined z = if length z == 1 || not (line_end (drop 1 z) == 0) then piece_of Join
+    (1 + line_end (drop 1 z)) else piece_of Bad 1
 
 -- the longest run of letters, digits, `_` and `.`, which is a number or nothing
 abbrev pub numeral : Bytes → Piece
@@ -38,8 +40,8 @@ mark z =
     let n = longest operators z in
     if n == 0 then piece_of Bad 1 else piece_of (Solid k.Op) n
 
--- The piece at the front of a text that isn't empty: what it is and how many bytes it has. It goes by the first byte: 32 is a
--- space, 9 a tab, 35 `#`, 92 `\`, 39 `'`, 34 `"`.
+-- The piece at the front of a text that isn't empty: what it is and how many bytes it has. It goes by the first byte:
+-- 32 is a space, 9 a tab, 35 `#`, 92 `\`, 39 `'`, 34 `"`.
 unfoldable pub piece : Bytes → Piece
 piece z =
     let b = slice_index z 0 in

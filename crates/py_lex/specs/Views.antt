@@ -1,4 +1,4 @@
--- What the code's layout stands for, and what its calls answer.
+-- What the code's layout stands for, and what its calls answer. Only contracts of the crate's own functions cite this.
 use Rattle.std.specs.Prelude.{◌≡◌, ℕ, ◌+◌, ◌≤◌, Result, Ok, Err}
 use Rattle.krn_base.specs.declared.place.Loc.{Loc}
 use Rattle.krn_base.specs.declared.refusal.Stop.{Stop}
@@ -8,10 +8,18 @@ use Rattle.py_lex.specs.declared.token.Tokens.{Tokens}
 use Rattle.py_lex.specs.declared.layout.Layout.{Layout}
 use Rattle.py_lex.specs.declared.layout.Line.{Line}
 use Rattle.py_lex.specs.declared.layout.Line.TheVariants.{Fresh, Inside}
-use Rattle.py_lex.specs.Layout.{State, IsNear}
+use Rattle.py_lex.specs.Bytes.{Bytes}
+use Rattle.py_lex.specs.Layout.{State, IsNear, ended, commented}
 
 abbrev pub view : Layout → State
-view l = record { place = l.place; depth = l.depth; line = l.line; indents = l.indents.items; tokens = l.tokens.items; notes = l.notes.items }
+view l = record {
+  place = l.place;
+  depth = l.depth;
+  line = l.line;
+  indents = l.indents.items;
+  tokens = l.tokens.items;
+  notes = l.notes.items;
+}
 
 -- a refusal under the rule Lex at this place
 abbrev pub IsLexAt : Loc → Stop → Type 0
@@ -23,6 +31,13 @@ abbrev pub Steps : {A : Type 0} → Result State Loc → Result A Stop → State
 Steps outcome (Ok a) new = outcome ≡ Ok new
 Steps outcome (Err (Refused r)) new = (r.rule ≡ rule.Lex) × (outcome ≡ Err r.loc)
 Steps outcome (Err Memory) new = Unit {0}
+
+-- a line end, and a comment
+abbrev pub EndsLine : {A : Type 0} → Bytes → Layout → Result A Stop → Layout → Type 0
+EndsLine text old result new = Steps (ended text (view old) old.line) result (view new)
+
+abbrev pub Comments : {A : Type 0} → Bytes → Layout → Result A Stop → Layout → Type 0
+Comments text old result new = Steps (Ok (commented text (view old) old.line)) result (view new)
 
 -- the whole call gives the definition's list or its refusal, unless memory is wanting
 abbrev pub Lists : Result Tokens Loc → Result Tokens Stop → Type 0

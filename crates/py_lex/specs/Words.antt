@@ -1,5 +1,7 @@
 -- What is a name, a keyword, a number, a text, an operator and a note.
-use Rattle.std.specs.Prelude.{ℕ, suc, zero, ◌+◌, ◌-◌, ◌*◌, ◌^◌, Bool, false, not, ◌||◌, ◌&&◌, List, [], ◌∷◌, ◌==◌, nat_eq, nat_lt, nat_le, if◌then◌else◌, slice_index, length, codes, drop, fold, max, Option, Some, None, ℤ, pos}
+use Rattle.std.specs.Prelude.{ℕ, suc, zero, ◌+◌, ◌-◌, ◌*◌, ◌^◌, Bool, false, not, ◌||◌, ◌&&◌, List, [], ◌∷◌, ◌==◌}
+use Rattle.std.specs.Prelude.{nat_eq, nat_lt, nat_le, if◌then◌else◌, slice_index, length, codes, drop, fold, max}
+use Rattle.std.specs.Prelude.{Option, Some, None, ℤ, pos}
 use Rattle.std.specs.List.{list_any, starts_with}
 use Rattle.std.specs.Str.{bytes_eq}
 use Rattle.py_lex.specs.declared.bytes.Set.TheVariants.{Blank, Digit, Hexadecimal, Word}
@@ -8,10 +10,14 @@ use Rattle.py_lex.specs.Bytes.{Bytes, is_in, are_in, run}
 -- Python's 35 keywords
 unfoldable pub keywords : List Bytes
 keywords =
-    codes "False" ∷ codes "None" ∷ codes "True" ∷ codes "and" ∷ codes "as" ∷ codes "assert" ∷ codes "async" ∷ codes "await"
-    ∷ codes "break" ∷ codes "class" ∷ codes "continue" ∷ codes "def" ∷ codes "del" ∷ codes "elif" ∷ codes "else" ∷ codes "except"
-    ∷ codes "finally" ∷ codes "for" ∷ codes "from" ∷ codes "global" ∷ codes "if" ∷ codes "import" ∷ codes "in" ∷ codes "is"
-    ∷ codes "lambda" ∷ codes "nonlocal" ∷ codes "not" ∷ codes "or" ∷ codes "pass" ∷ codes "raise" ∷ codes "return" ∷ codes "try"
+    codes "False" ∷ codes "None" ∷ codes "True" ∷ codes "and" ∷ codes "as" ∷ codes "assert" ∷ codes "async" ∷ codes
+    "await"
+    ∷ codes "break" ∷ codes "class" ∷ codes "continue" ∷ codes "def" ∷ codes "del" ∷ codes "elif" ∷ codes "else" ∷
+    codes "except"
+    ∷ codes "finally" ∷ codes "for" ∷ codes "from" ∷ codes "global" ∷ codes "if" ∷ codes "import" ∷ codes "in" ∷ codes
+    "is"
+    ∷ codes "lambda" ∷ codes "nonlocal" ∷ codes "not" ∷ codes "or" ∷ codes "pass" ∷ codes "raise" ∷ codes "return" ∷
+    codes "try"
     ∷ codes "while" ∷ codes "with" ∷ codes "yield" ∷ []
 
 unfoldable pub is_keyword : Bytes → Bool
@@ -24,9 +30,12 @@ is_name word = not (length word == 0) && (not (is_in Digit (slice_index word 0))
 -- the operators of the language, and the brackets and marks
 unfoldable pub operators : List Bytes
 operators =
-    codes "**" ∷ codes "//" ∷ codes "<<" ∷ codes ">>" ∷ codes "<=" ∷ codes ">=" ∷ codes "==" ∷ codes "!=" ∷ codes "+=" ∷ codes "-="
-    ∷ codes "*=" ∷ codes "//=" ∷ codes "%=" ∷ codes "<<=" ∷ codes ">>=" ∷ codes "&=" ∷ codes "|=" ∷ codes "^=" ∷ codes "+"
-    ∷ codes "-" ∷ codes "*" ∷ codes "%" ∷ codes "&" ∷ codes "|" ∷ codes "^" ∷ codes "~" ∷ codes "<" ∷ codes ">" ∷ codes "="
+    codes "**" ∷ codes "//" ∷ codes "<<" ∷ codes ">>" ∷ codes "<=" ∷ codes ">=" ∷ codes "==" ∷ codes "!=" ∷ codes
+    "+=" ∷ codes "-="
+    ∷ codes "*=" ∷ codes "//=" ∷ codes "%=" ∷ codes "<<=" ∷ codes ">>=" ∷ codes "&=" ∷ codes "|=" ∷ codes "^=" ∷ codes
+    "+"
+    ∷ codes "-" ∷ codes "*" ∷ codes "%" ∷ codes "&" ∷ codes "|" ∷ codes "^" ∷ codes "~" ∷ codes "<" ∷ codes ">" ∷ codes
+    "="
     ∷ codes "(" ∷ codes ")" ∷ codes "[" ∷ codes "]" ∷ codes "," ∷ codes ":" ∷ codes "." ∷ []
 
 unfoldable pub is_operator : Bytes → Bool
@@ -77,8 +86,8 @@ below_bound None = None
 unfoldable pub is_number : Bytes → Bool
 is_number text = is_in_range (number_value text)
 
--- How many bytes there are up to behind the closing quotes, `at` of which have been passed, or none where they don't come. A `\`
--- (92) takes the next byte with it; between single quotes no line may end (10 is LF).
+-- How many bytes there are up to behind the closing quotes, `at` of which have been passed, or none where they don't
+-- come. A `\` (92) takes the next byte with it; between single quotes no line may end (10 is LF).
 unfoldable pub closed : Bytes → ℕ → ℕ → Bytes → Option ℕ
 closed quotes taken at [] = None
 closed quotes (suc taken) at (b ∷ z) = closed quotes taken (at + 1) z

@@ -18,6 +18,7 @@ pub enum Set {
     Number,
 }
 
+/// Whether the byte is of the set.
 pub fn is_in(set: Set, b: u8) -> bool
     ensures { result ≡ spec.is_in set b }
 {

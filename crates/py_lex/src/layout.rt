@@ -247,7 +247,7 @@ impl Layout {
     #[tactic(auto, unfolding(crate::specs::Layout::ended))]
     fn end_line(&mut self, text: &[u8]) -> Result<(), Stop>
         requires { self.old.place.offset + length text.now < 2 ^ 32 }
-        ensures value { views.Steps (spec.ended text.now (views.view self.old) self.old.line) result (views.view self.new) }
+        ensures value { views.EndsLine text.now self.old result self.new }
         ensures moves { OnOk result (views.Moves self.old self.new) }
     {
         if self.line == Line::Inside {
@@ -264,7 +264,7 @@ impl Layout {
     fn comment(&mut self, text: &[u8]) -> Result<(), Stop>
         requires some { 0 < length text.now }
         requires room { self.old.place.offset + length text.now < 2 ^ 32 }
-        ensures value { views.Steps (Ok (spec.commented text.now (views.view self.old) self.old.line)) result (views.view self.new) }
+        ensures value { views.Comments text.now self.old result self.new }
         ensures moves { OnOk result (views.Moves self.old self.new) }
     {
         if self.line == Line::Inside || !is_note(text) {

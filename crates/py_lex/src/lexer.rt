@@ -4,6 +4,8 @@ ghost use Rattle.std.specs.Prelude.{◌≡◌, ◌+◌, ◌^◌, ◌≤◌, leng
 ghost use Rattle.py_lex.specs.Pieces.{pieces};
 ghost use Rattle.py_lex.specs.Layout as spec;
 ghost use Rattle.py_lex.specs.Lexed.{IsLexed, IsRefusal, IsOnly};
+ghost use Rattle.std.specs.List.{AllByRecursion};
+ghost use Rattle.py_lex.specs.Laws.{IsLongest, IsInBlocks, IsBalanced, AreNotes, IsViable};
 ghost use Rattle.py_lex.specs.declared.token.Tokens.{Tokens};
 ghost use Rattle.py_lex.specs.Views.{view, Steps, Lists, IsFit};
 
@@ -42,15 +44,21 @@ fn listed(alloc: Global, source: &[u8]) -> Result<Tokens, Stop>
     Ok(layout.into_tokens())
 }
 
-/// The tokens and notes of a module's source, by the rules of Python's language reference, "Lexical analysis", with ASCII alone
-/// outside comments and texts and with this project's limits: numbers of at most 2^63-1, and at most 200,000 tokens.
+/// The tokens and notes of a module's source, by the rules of Python's language reference, "Lexical analysis", with
+/// ASCII alone outside comments and texts and with this project's limits: numbers of at most 2^63-1, and at most
+/// 200,000 tokens.
 ///
-/// The answer is the one list that these rules give; [`Stop::Refused`] by `Rule::Lex`, exactly where they give none, at the byte
-/// or token that breaks them; or [`Stop::Memory`]. Each byte is looked at a bounded number of times.
+/// The answer is the one list that these rules give; [`Stop::Refused`] by `Rule::Lex`, exactly where they give none, at
+/// the byte or token that breaks them; or [`Stop::Memory`]. Each byte is looked at a bounded number of times.
 pub fn tokens(alloc: Global, source: &[u8]) -> Result<Tokens, Stop>
     requires { length source.now ≤ 2 ^ 31 }
     ensures lexed { IfOk result (λ ts. IsLexed source.now ts) }
     ensures refused { IfErr result (IsRefusal source.now) }
+    ensures longest { IfOk result (λ ts. AllByRecursion (IsLongest source.now) ts.tokens) }
+    ensures blocks { IfOk result (λ ts. IsInBlocks source.now ts.tokens) }
+    ensures balanced { IfOk result (λ ts. IsBalanced ts.tokens) }
+    ensures notes { IfOk result (λ ts. AreNotes source.now ts) }
+    ensures viable { IfErr result (IsViable source.now) }
     ensures only { (ts : Tokens) → IsLexed source.now ts → IsOnly ts result }
 {
     listed(alloc, source)

@@ -1,7 +1,7 @@
 //! The tokens of a kernel module.
 //!
-//! A module's text is a list of bytes in Python's layout: lines end at LF or CR LF, blocks are indented by spaces, brackets
-//! and a `\` at a line's end join lines. [`tokens`] cuts it up in one pass.
+//! A module's text is a list of bytes in Python's layout: lines end at LF or CR LF, blocks are indented by spaces,
+//! brackets and a `\` at a line's end join lines. [`tokens`] cuts it up in one pass.
 #![tactic(auto)]
 
 mod bytes;

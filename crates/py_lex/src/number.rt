@@ -74,8 +74,8 @@ fn is_hexadecimal(text: &[u8]) -> bool
     }
 }
 
-/// The value of a number's text: `0`, decimal digits of which the first isn't 0, or `0x` and hexadecimal digits. `None` for a
-/// number above 2^63-1, and for every text that is no number.
+/// The value of a number's text: `0`, decimal digits of which the first isn't 0, or `0x` and hexadecimal digits. `None`
+/// for a number above 2^63-1, and for every text that is no number.
 #[tactic(auto, using(crate::proofs::Numbers::below_bound_capped), unfolding(crate::specs::Words::number_value))]
 pub fn number_value(text: &[u8]) -> Option<i64>
     ensures { result ≡ spec.below_bound (spec.number_value text.now) }

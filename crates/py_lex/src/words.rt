@@ -65,6 +65,7 @@ fn contains(mut words: &[&[u8]], word: &[u8]) -> bool
     false
 }
 
+/// Whether the word is one of Python's keywords.
 pub fn is_keyword(word: &[u8]) -> bool
     ensures { result ≡ spec.is_keyword word.now }
 {

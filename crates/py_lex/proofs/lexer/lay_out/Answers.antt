@@ -10,15 +10,33 @@ pub loop-rest-preserved : goal.loop-rest-preserved
 loop-rest-preserved c =
     let z = c.loop-rest.rest.now in
     let some : 0 < length z = first_of (search rules, grind (arith, nat_tests)) in
-    let cut = layout-cut z c.first_piece-piece.result (view c.loop-rest.layout) (view c.step.new.self) c.first_piece-piece.ensures.value some c.first_piece-piece.ensures.within.0 (rw (← c.split_at.ensures.front) c.in-Ok.ensures.value) in
-    (rw c.split_at.ensures.back (c.loop-rest.invariant.0 ∙ cut), c.in-Ok.ensures.near, first_of (search rules, omega (arith, c.in-Ok.ensures.moves, c.split_at.ensures.back_len, c.split_at.ensures.front_len)))
+    let cut = layout-cut z c.first_piece-piece.result (view c.loop-rest.layout)
+    (view c.step.new.self) c.first_piece-piece.ensures.value some c.first_piece-piece.ensures.within.0
+    (rw (← c.split_at.ensures.front) c.in-Ok.ensures.value) in (
+      rw c.split_at.ensures.back (c.loop-rest.invariant.0
+          ∙ cut),
+      c.in-Ok.ensures.near,
+      first_of (
+        search rules,
+        omega (
+          arith,
+          c.in-Ok.ensures.moves,
+          c.split_at.ensures.back_len,
+          c.split_at.ensures.front_len,
+        ),
+      ),
+    )
 
 pub returns-in-Err-clause-value : goal.returns-in-Err-clause-value
 returns-in-Err-clause-value c =
     let z = c.loop-rest.rest.now in
     let some : 0 < length z = first_of (search rules, grind (arith, nat_tests)) in
-    steps-refused unit.Denot unit.Denot (step c.first_piece-piece.result.class c.split_at.result.0.now (view c.loop-rest.layout)) _ c.in-Err.stop (view c.step.new.self) (view c.step.new.self)
-    (λ at e. c.loop-rest.invariant.0 ∙ layout-refused z c.first_piece-piece.result (view c.loop-rest.layout) at c.first_piece-piece.ensures.value some c.first_piece-piece.ensures.within.0 (rw (← c.split_at.ensures.front) e))
+    steps-refused unit.Denot unit.Denot (step c.first_piece-piece.result.class c.split_at.result.0.now
+    (view c.loop-rest.layout)) _ c.in-Err.stop (view c.step.new.self) (view c.step.new.self)
+    (λ at e. c.loop-rest.invariant.0
+    ∙ layout-refused z c.first_piece-piece.result
+    (view c.loop-rest.layout) at c.first_piece-piece.ensures.value some c.first_piece-piece.ensures.within.0
+    (rw (← c.split_at.ensures.front) e))
     c.in-Err.ensures.value
 
 pub returns-clause-value : goal.returns-clause-value

@@ -5,4 +5,5 @@ use Rattle.py_lex.proofs.layout.Layout.put_dedents.Given as goal
 
 abbrev pub invariant-loop-turn : goal.invariant-loop-turn
 invariant-loop-turn l =
-    (put_dedents l.count (view l.initial.self) ≡ put_dedents (l.count - l._turn) (view l.self)) × Stays l.initial.self l.self
+    (put_dedents l.count (view l.initial.self) ≡ put_dedents (l.count - l._turn) (view l.self))
+    × Stays l.initial.self l.self
