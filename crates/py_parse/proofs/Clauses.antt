@@ -21,9 +21,9 @@ sound = sound_by parts_follow (λ depth ts halves rest e. subst (λ (o : Outcome
 complete : Complete
 complete = reads
 
-pub parse_tree : (source : Bytes) (tokens : Tokens) (result : Result Module Stop) → IsDescended source tokens result
-    → IfOk result (λ m. IsTree source tokens m)
-parse_tree source tokens result h = has_tree sound source tokens result h
+pub parse_tree : (source : Bytes) (tokens : Tokens) → IsLexed source tokens → (result : Result Module Stop)
+    → IsDescended source tokens result → IfOk result (λ m. IsTree source tokens m)
+parse_tree source tokens lexed result h = has_tree sound source tokens lexed result h
 
 pub parse_refused : (source : Bytes) (tokens : Tokens) → IsLexed source tokens → (result : Result Module Stop)
     → IsDescended source tokens result → IfErr result (IsRefusal source tokens)
@@ -33,10 +33,15 @@ pub parse_only : (source : Bytes) (tokens : Tokens) (result : Result Module Stop
     → (m : Module) → IsTree source tokens m → IsOnly m result
 parse_only source tokens result h m is = has_only complete source tokens result h m is
 
-pub parse_place : (source : Bytes) (tokens : Tokens) → IsLexed source tokens → (result : Result Module Stop) → IsDescended source tokens result
+pub parse_place : (source : Bytes) (tokens : Tokens) → IsLexed source tokens → (result : Result Module Stop)
+    → IsDescended source tokens result
     → (r : Refusal) → IsRefusal source tokens (stop.Refused r) → IsOnlyRefusal r result
 parse_place source tokens lexed result h r is =
-    only_refusal source tokens result (parse_tree source tokens result h) (parse_refused source tokens lexed result h) r is
+    only_refusal source tokens result (parse_tree source tokens lexed result h)
+    (parse_refused source tokens lexed result h) r is
 
-pub one_tree : (source : Bytes) (tokens : Tokens) (m n : Module) → IsTree source tokens m → IsTree source tokens n → m ≡ n
+pub one_tree : (source : Bytes) (tokens : Tokens) (m n : Module) → IsTree source tokens m → IsTree source tokens n
+    → m ≡ n
 one_tree source tokens m n is is' = one_module complete source tokens m n is is'
+
+pub ruleset clauses = (parse_tree, parse_refused, parse_only, parse_place)

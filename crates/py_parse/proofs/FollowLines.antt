@@ -18,7 +18,8 @@ use Rattle.py_parse.specs.Grammar as g
 use Rattle.py_parse.specs.Grammar.{Grammar, ◌>>=◌, ◌∣◌}
 use Rattle.py_parse.specs.Stack as k
 use Rattle.py_parse.specs.Stack.{T, N, row, with_operator}
-use Rattle.py_parse.proofs.Follows.{Follows, go_on, took, done, ending, weaken, rule_by, no_row, take, take_name, take_operator, expected}
+use Rattle.py_parse.proofs.Follows.{Follows, go_on, took, done, ending, weaken, rule_by, no_row, take, take_name}
+use Rattle.py_parse.proofs.Follows.{take_operator, expected}
 use Rattle.py_parse.proofs.FollowLists.{listed_items}
 use Rattle.py_parse.proofs.FollowExpr.{expr_follows, trailers_follow}
 
@@ -37,19 +38,23 @@ augmented_follow : (depth : ℕ) (target : Expr) (ts : Lexemes) (op : Option Bin
     → row k.Stored depth (kind ts) ≡ with_operator op (T (kind ts) ∷ N k.Expr depth ∷ [])
     → Follows (Stored depth target) (N k.Stored depth ∷ []) ts (b.augmented_by (d.expr depth) target (place ts) op ts)
 augmented_follow depth target ts (Some op) is on =
-    rule_by on (weaken (λ x us h. inr (inr h)) (took (take_operator is refl) (ending (λ x. s.Augment target op (place ts) x) (expr_follows depth (next ts)))))
+    rule_by on (weaken (λ x us h. inr (inr h))
+    (took (take_operator is refl) (ending (λ x. s.Augment target op (place ts) x) (expr_follows depth (next ts)))))
 augmented_follow depth target ts None is on = rule_by on (weaken (λ x us h. inl h) (done (s.Alone target)))
 
 stored_by_follow : (depth : ℕ) (target : Expr) (ts : Lexemes) (kind' : Terminal) → kind ts ≡ kind'
     → Follows (Stored depth target) (N k.Stored depth ∷ []) ts (b.stored_by (d.expr depth) target (place ts) kind' ts)
 stored_by_follow depth target ts t.Assign is =
     rule_by (ap (λ z. row k.Stored depth z) is)
-    (weaken (λ x us h. inr (inl h)) (took (take is (λ e. absurd cc)) (ending (λ x. s.Assign target (place ts) x) (expr_follows depth (next ts)))))
-stored_by_follow depth target ts kind' is = augmented_follow depth target ts (augmented kind') (ap augmented is) (rw is refl)
+    (weaken (λ x us h. inr (inl h))
+    (took (take is (λ e. absurd cc)) (ending (λ x. s.Assign target (place ts) x) (expr_follows depth (next ts)))))
+stored_by_follow depth target ts kind' is = augmented_follow depth target ts (augmented kind') (ap augmented is)
+    (rw is refl)
 
 -- the sequence with the target as one part of it
 targeted : {B : Type 0} (depth : ℕ) (F : Expr → Grammar B) (y : B) (ts : Lexemes)
-    → (g.name >>= (λ first. g.many (g.trailer_at depth (g.inside depth)) >>= (λ more. F (trailed (e.Name first) more)))) y ts
+    → (g.name >>= (λ first. g.many (g.trailer_at depth (g.inside depth)) >>=
+    (λ more. F (trailed (e.Name first) more)))) y ts
     → (g.target depth >>= F) y ts
 targeted depth F y ts (first, a, c, parts, named, (more, u, v, parts2, are, after)) = (
   trailed (e.Name first) more,
@@ -70,28 +75,36 @@ simple_target depth y ts (x, a, c, parts, is, inr (inr h)) = inr (inr (inr (inr 
 stored_rest : (depth : ℕ) (first : Name) (ts : Lexemes)
     → Follows (g.many (g.trailer_at depth (g.inside depth)) >>= (λ more. Stored depth (trailed (e.Name first) more)))
     (N k.Trailers depth ∷ N k.Stored depth ∷ []) ts
-    (and_then (d.trailers (d.inside depth) ts) (λ more us. b.stored_by (d.expr depth) (trailed (e.Name first) more) (place us) (kind us) us))
+    (and_then (d.trailers (d.inside depth) ts) (λ more us. b.stored_by (d.expr depth) (trailed (e.Name first) more)
+    (place us) (kind us) us))
 stored_rest depth first ts =
-    go_on (trailers_follow depth ts) (λ more us _. stored_by_follow depth (trailed (e.Name first) more) us (kind us) refl)
+    go_on (trailers_follow depth ts) (λ more us _. stored_by_follow depth (trailed (e.Name first) more) us
+    (kind us) refl)
 
 stored_follow : (depth : ℕ) (ts : Lexemes) → kind ts ≡ t.Name
     → Follows (g.simple depth) (T t.Name ∷ N k.Trailers depth ∷ N k.Stored depth ∷ []) ts (b.stored depth ts)
 unfolding b.stored
 stored_follow depth ts is =
-    weaken (λ y us h. simple_target depth y us (targeted depth (Stored depth) y us h)) (took (take_name is) (stored_rest depth (name_at ts) (next ts)))
+    weaken (λ y us h. simple_target depth y us (targeted depth (Stored depth) y us h))
+    (took (take_name is) (stored_rest depth (name_at ts) (next ts)))
 
 returned_follow : (depth : ℕ) (ts : Lexemes) → kind ts ≡ t.Return
     → Follows (g.simple depth) (T t.Return ∷ N (k.More k.Value) depth ∷ []) ts (b.returned depth ts)
 unfolding b.returned
 returned_follow depth ts is =
-    weaken (λ y us h. inr (inr (inl h))) (took (take is (λ e. absurd cc)) (ending (λ xs. s.Return (place ts) xs) (listed_items (g.expr depth) k.Value depth (d.expr depth) (expr_follows depth) (next ts))))
+    weaken (λ y us h. inr (inr (inl h)))
+    (took (take is (λ e. absurd cc))
+    (ending (λ xs. s.Return (place ts) xs) (listed_items (g.expr depth) k.Value depth (d.expr depth)
+    (expr_follows depth) (next ts))))
 
 simple_by_follow : (depth : ℕ) (ts : Lexemes) (kind' : Terminal) → kind ts ≡ kind'
     → Follows (g.simple depth) (N k.Simple depth ∷ []) ts (b.simple_by depth kind' ts)
 simple_by_follow depth ts t.Text is =
-    rule_by (ap (λ z. row k.Simple depth z) is) (weaken (λ y us h. inl h) (took (take is (λ e. absurd cc)) (done s.Doc)))
+    rule_by (ap (λ z. row k.Simple depth z) is)
+    (weaken (λ y us h. inl h) (took (take is (λ e. absurd cc)) (done s.Doc)))
 simple_by_follow depth ts t.Pass is =
-    rule_by (ap (λ z. row k.Simple depth z) is) (weaken (λ y us h. inr (inl h)) (took (take is (λ e. absurd cc)) (done s.Pass)))
+    rule_by (ap (λ z. row k.Simple depth z) is)
+    (weaken (λ y us h. inr (inl h)) (took (take is (λ e. absurd cc)) (done s.Pass)))
 simple_by_follow depth ts t.Return is = rule_by (ap (λ z. row k.Simple depth z) is) (returned_follow depth ts is)
 simple_by_follow depth ts t.Name is = rule_by (ap (λ z. row k.Simple depth z) is) (stored_follow depth ts is)
 simple_by_follow depth ts _ is = no_row (ap (λ z. row k.Simple depth z) is)

@@ -1,5 +1,6 @@
 -- Lists follow their rules: those with commas, those up to a closing terminal, and those that a loop gathers.
-use Rattle.std.proofs.Common.{◌≡◌, ℕ, zero, suc, ◌<◌, Bool, true, false, List, [], ◌∷◌, ◌++◌, length, Some, Ok, inl, inr, refl, ap, sym, subst, ◌∙◌, append_assoc, arith, if◌then◌else◌}
+use Rattle.std.proofs.Common.{◌≡◌, ℕ, zero, suc, ◌<◌, Bool, true, false, List, [], ◌∷◌, ◌++◌, length, Some, Ok, inl}
+use Rattle.std.proofs.Common.{inr, refl, ap, sym, subst, ◌∙◌, append_assoc, arith, if◌then◌else◌}
 use Rattle.std.proofs.lemmas.List.{append-nil}
 use Rattle.krn_base.specs.declared.place.Loc.{Loc}
 use Rattle.py_parse.specs.declared.terminal.Terminal.{Terminal}
@@ -10,7 +11,8 @@ use Rattle.py_parse.specs.Parser.{Outcome, Parser, and_then, kind, place, next}
 use Rattle.py_parse.specs.Grammar as g
 use Rattle.py_parse.specs.Grammar.{Grammar, ◌>>=◌}
 use Rattle.py_parse.specs.Stack.{Stack, N, Item, Items, More, Comma, Stmt, Stmts, row, close_of, item_symbol}
-use Rattle.py_parse.proofs.Follows.{Follows, Takes, go_on, done, weaken, rule_by, take, no_longer, shorter, behind_token}
+use Rattle.py_parse.proofs.Follows.{Follows, Takes, go_on, done, weaken, rule_by, take, no_longer, shorter}
+use Rattle.py_parse.proofs.Follows.{behind_token}
 
 -- a list that begins with the items that were found
 abbrev pub Adds : {A : Type 0} → Grammar (List A) → List A → Grammar (List A)
@@ -23,7 +25,8 @@ from_none list all ts (more, is, h) = subst (λ z. list z ts) (sym is) h
 -- ---- items without commas
 
 -- no more
-pub no_more : {A : Type 0} {item : Grammar A} {ts : Lexemes} (found : List A) → Follows (Adds (g.many item) found) [] ts (Ok (found, ts))
+pub no_more : {A : Type 0} {item : Grammar A} {ts : Lexemes} (found : List A)
+    → Follows (Adds (g.many item) found) [] ts (Ok (found, ts))
 no_more {item = item} found = weaken (λ x us r. ([], r.0 ∙ sym (append-nil found), r.1)) (done found)
 
 one_more_is : {A : Type 0} (item : Grammar A) (found : List A) (all : List A) (ts : Lexemes)
@@ -40,7 +43,8 @@ one_more {item = item} found h = weaken (λ all us r. one_more_is item found all
 
 rest_is : {A : Type 0} (item : Grammar A) (more : List A) (at : Loc) (a b : Lexemes)
     → g.token t.Comma at a → g.listed item more b → g.rest item more (a ++ b)
-rest_is item [] at a b (text, is) (inl (none, nothing)) = inr (at, (text, ap (λ z. a ++ z) nothing ∙ (append-nil a ∙ is)))
+rest_is item [] at a b (text, is) (inl (none, nothing)) =
+    inr (at, (text, ap (λ z. a ++ z) nothing ∙ (append-nil a ∙ is)))
 rest_is item [] at a b tok (inr none) = elim none [ ]
 rest_is item (x ∷ xs) at a b tok (inr (c, e, parts, isx, are)) = (at, a, c, e, ap (λ z. a ++ z) parts, tok, isx, are)
 rest_is item (x ∷ xs) at a b tok (inl (none, nothing)) = absurd cc
@@ -56,7 +60,8 @@ some_is item found all ts (x, a, b, parts, isx, (more, all_is, are)) =
     (x ∷ more, all_is ∙ append_assoc found (x ∷ []) more, (a, b, parts, isx, are))
 
 -- behind a comma, or where the list may be empty
-behind_by : {A : Type 0} (item : Grammar A) (i : Item) (d : ℕ) (again : List A → Parser (List A)) (found : List A) (ts : Lexemes) (b : Bool)
+behind_by : {A : Type 0} (item : Grammar A) (i : Item) (d : ℕ) (again : List A
+    → Parser (List A)) (found : List A) (ts : Lexemes) (b : Bool)
     → same (kind ts) (close_of i) ≡ b → Follows (Adds (g.some item) found) (N (Items i) d ∷ []) ts (again found ts)
     → Follows (Adds (g.listed item) found) (N (More i) d ∷ []) ts ((if b then p.pure found else again found) ts)
 behind_by item i d again found ts true e h =
@@ -66,16 +71,20 @@ behind_by item i d again found ts false e h =
     rule_by {a = N (Items i) d ∷ []} (ap (λ (b : Bool). if b then Some [] else Some (N (Items i) d ∷ [])) e)
     (weaken (λ x us r. (r.0, r.1, inr r.2)) h)
 
-behind : {A : Type 0} (item : Grammar A) (i : Item) (d : ℕ) (again : List A → Parser (List A)) (found : List A) (ts : Lexemes)
+behind : {A : Type 0} (item : Grammar A) (i : Item) (d : ℕ) (again : List A
+    → Parser (List A)) (found : List A) (ts : Lexemes)
     → Follows (Adds (g.some item) found) (N (Items i) d ∷ []) ts (again found ts)
     → Follows (Adds (g.listed item) found) (N (More i) d ∷ []) ts (p.behind_comma (close_of i) again found ts)
 behind item i d again found ts h = behind_by item i d again found ts (same (kind ts) (close_of i)) refl h
 
 -- behind an item
-after_by : {A : Type 0} (item : Grammar A) (i : Item) (d : ℕ) (again : List A → Parser (List A)) (found : List A) (ts : Lexemes) (k : Terminal) → kind ts ≡ k
-    → ((us : Lexemes) → length us < length ts → Follows (Adds (g.some item) found) (N (Items i) d ∷ []) us (again found us))
+after_by : {A : Type 0} (item : Grammar A) (i : Item) (d : ℕ) (again : List A
+    → Parser (List A)) (found : List A) (ts : Lexemes) (k : Terminal) → kind ts ≡ k
+    → ((us : Lexemes) → length us < length ts
+    → Follows (Adds (g.some item) found) (N (Items i) d ∷ []) us (again found us))
     → Follows (Adds (g.rest item) found) (N (Comma i) d ∷ []) ts
-    (and_then (if same k t.Comma then Ok (true, next ts) else Ok (false, ts)) (λ more. if more then p.behind_comma (close_of i) again found else p.pure found))
+    (and_then (if same k t.Comma then Ok (true, next ts) else Ok (false, ts))
+    (λ more. if more then p.behind_comma (close_of i) again found else p.pure found))
 unfolding same
 after_by item i d again found ts t.Comma is h =
     rule_by (ap (row (Comma i) d) is)
@@ -84,8 +93,10 @@ after_by item i d again found ts t.Comma is h =
 after_by item i d again found ts _ is h =
     rule_by (ap (row (Comma i) d) is) (weaken (λ x us r. ([], r.0 ∙ sym (append-nil found), inl r.1)) (done found))
 
-after : {A : Type 0} (item : Grammar A) (i : Item) (d : ℕ) (again : List A → Parser (List A)) (found : List A) (ts : Lexemes)
-    → ((us : Lexemes) → length us < length ts → Follows (Adds (g.some item) found) (N (Items i) d ∷ []) us (again found us))
+after : {A : Type 0} (item : Grammar A) (i : Item) (d : ℕ) (again : List A
+    → Parser (List A)) (found : List A) (ts : Lexemes)
+    → ((us : Lexemes) → length us < length ts
+    → Follows (Adds (g.some item) found) (N (Items i) d ∷ []) us (again found us))
     → Follows (Adds (g.rest item) found) (N (Comma i) d ∷ []) ts
     (and_then (p.comma ts) (λ more. if more then p.behind_comma (close_of i) again found else p.pure found))
 unfolding p.comma
@@ -114,22 +125,26 @@ pub more_follows : {A : Type 0} (item : Grammar A) (i : Item) (d : ℕ) (parser 
     → ((ts : Lexemes) → Follows item (item_symbol i d ∷ []) ts (parser ts)) → (found : List A) (ts : Lexemes)
     → Follows (Adds (g.listed item) found) (N (More i) d ∷ []) ts (p.more (close_of i) parser found ts)
 unfolding p.more
-more_follows item i d parser h found ts = behind item i d (p.some (close_of i) parser) found ts (some_follows item i d parser h found ts)
+more_follows item i d parser h found ts = behind item i d (p.some (close_of i) parser) found ts
+    (some_follows item i d parser h found ts)
 
 -- a list from its first item
 pub some_items : {A : Type 0} (item : Grammar A) (i : Item) (d : ℕ) (parser : Parser A)
     → ((ts : Lexemes) → Follows item (item_symbol i d ∷ []) ts (parser ts)) → (ts : Lexemes)
     → Follows (g.some item) (N (Items i) d ∷ []) ts (p.some (close_of i) parser [] ts)
-some_items item i d parser h ts = weaken (λ all us r. from_none (g.some item) all us r) (some_follows item i d parser h [] ts)
+some_items item i d parser h ts = weaken (λ all us r. from_none (g.some item) all us r)
+    (some_follows item i d parser h [] ts)
 
 pub listed_items : {A : Type 0} (item : Grammar A) (i : Item) (d : ℕ) (parser : Parser A)
     → ((ts : Lexemes) → Follows item (item_symbol i d ∷ []) ts (parser ts)) → (ts : Lexemes)
     → Follows (g.listed item) (N (More i) d ∷ []) ts (p.more (close_of i) parser [] ts)
-listed_items item i d parser h ts = weaken (λ all us r. from_none (g.listed item) all us r) (more_follows item i d parser h [] ts)
+listed_items item i d parser h ts = weaken (λ all us r. from_none (g.listed item) all us r)
+    (more_follows item i d parser h [] ts)
 
 -- ---- statements of a block
 
-until_by : {A : Type 0} (item : Grammar A) (d : ℕ) (parser : Parser A) (again : List A → Parser (List A)) (found : List A) (ts : Lexemes)
+until_by : {A : Type 0} (item : Grammar A) (d : ℕ) (parser : Parser A) (again : List A
+    → Parser (List A)) (found : List A) (ts : Lexemes)
     → Follows item (N Stmt d ∷ []) ts (parser ts)
     → ((x : A) (us : Lexemes) → Takes item (N Stmt d ∷ []) ts x us
     → Follows (Adds (g.many item) (found ++ x ∷ [])) (N Stmts d ∷ []) us (again (found ++ x ∷ []) us))
@@ -149,7 +164,8 @@ unfolding p.until_from
 until_from item d parser h one zero found ts lt = absurd (omega arith)
 until_from item d parser h one (suc n) found ts lt =
     until_by item d parser (p.until_from t.Dedent parser n) found ts (h ts)
-    (λ x us tk. until_from item d parser h one n (found ++ x ∷ []) us (let le = shorter tk (one x tk.used tk.is) in omega arith))
+    (λ x us tk. until_from item d parser h one n (found ++ x ∷ []) us
+    (let le = shorter tk (one x tk.used tk.is) in omega arith))
     (kind ts) refl
 
 -- the statements up to the end of their block, after those that were found; each takes a lexeme at least

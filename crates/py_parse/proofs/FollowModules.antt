@@ -1,5 +1,6 @@
 -- Modules follow their rule.
-use Rattle.std.proofs.Common.{◌≡◌, ℕ, zero, suc, ◌-◌, ◌≤◌, ◌<◌, List, [], ◌∷◌, ◌++◌, length, Ok, Err, inl, inr, refl, ap, sym, subst, ◌∙◌, append_assoc, length-append, arith}
+use Rattle.std.proofs.Common.{◌≡◌, ℕ, zero, suc, ◌-◌, ◌≤◌, ◌<◌, List, [], ◌∷◌, ◌++◌, length, Ok, Err, inl, inr, refl}
+use Rattle.std.proofs.Common.{ap, sym, subst, ◌∙◌, append_assoc, length-append, arith}
 use Rattle.std.proofs.lemmas.List.{append-nil}
 use Rattle.py_parse.specs.declared.terminal.Terminal.{Terminal}
 use Rattle.py_parse.specs.declared.terminal.Terminal.TheVariants as t
@@ -16,7 +17,8 @@ use Rattle.py_parse.specs.Grammar.{Grammar, Part, Imported, Defined, Said, impor
 use Rattle.py_parse.specs.Stack as k
 use Rattle.py_parse.specs.Stack.{Stack, T, N, row, RefusedAt}
 use Rattle.py_parse.specs.Parsed.{Halves, IsModule}
-use Rattle.py_parse.proofs.Follows.{Follows, Fate, go_on, took, done, ending, weaken, alike, rule_by, no_row, take, expected, named, shorter, behind_token, begun}
+use Rattle.py_parse.proofs.Follows.{Follows, Fate, go_on, took, done, ending, weaken, alike, rule_by, no_row, take}
+use Rattle.py_parse.proofs.Follows.{expected, named, shorter, behind_token, begun}
 use Rattle.py_parse.proofs.FollowLists.{listed_items}
 use Rattle.py_parse.proofs.FollowBlocks.{block_follow}
 
@@ -25,7 +27,11 @@ use Rattle.py_parse.proofs.FollowBlocks.{block_follow}
 abbrev Aliased : Name → Grammar Import
 Aliased origin =
     (do _ ← g.token t.Newline; g.gives (record { «module» = origin; alias = origin }))
-    ∣ (do _ ← g.token t.As; alias ← g.name; _ ← g.token t.Newline; g.gives (record { «module» = origin; alias = alias }))
+    ∣ (do
+      _ ← g.token t.As
+      alias ← g.name
+      _ ← g.token t.Newline
+      g.gives (record { «module» = origin; alias = alias }))
 
 alias_by_follow : (depth : ℕ) (origin : Name) (ts : Lexemes) (kind' : Terminal) → kind ts ≡ kind'
     → Follows (Aliased origin) (N k.Alias depth ∷ []) ts (b.alias_by origin kind' ts)
@@ -35,18 +41,22 @@ alias_by_follow depth origin ts t.As is =
     ending (λ _. record { «module» = origin; alias = alias }) (expected us t.Newline (λ e. absurd cc))))))
 alias_by_follow depth origin ts _ is =
     rule_by (ap (λ z. row k.Alias depth z) is)
-    (weaken (λ y us h. inl h) (ending (λ _. record { «module» = origin; alias = origin }) (expected ts t.Newline (λ e. absurd cc))))
+    (weaken (λ y us h. inl h) (ending (λ _. record { «module» = origin; alias = origin })
+    (expected ts t.Newline (λ e. absurd cc))))
 
 imported_as : (y : Import) (us : Lexemes) → (g.token t.Import >>= (λ _. g.name >>= Aliased)) y us → g.imported y us
-imported_as y us (at, a, c, parts, token, (x, u, v, parts2, named, inl h)) = inl (at, a, c, parts, token, (x, u, v, parts2, named, h))
-imported_as y us (at, a, c, parts, token, (x, u, v, parts2, named, inr h)) = inr (at, a, c, parts, token, (x, u, v, parts2, named, h))
+imported_as y us (at, a, c, parts, token, (x, u, v, parts2, named, inl h)) =
+    inl (at, a, c, parts, token, (x, u, v, parts2, named, h))
+imported_as y us (at, a, c, parts, token, (x, u, v, parts2, named, inr h)) =
+    inr (at, a, c, parts, token, (x, u, v, parts2, named, h))
 
 imported_follow : (depth : ℕ) (ts : Lexemes) → kind ts ≡ t.Import
     → Follows g.imported (T t.Import ∷ T t.Name ∷ N k.Alias depth ∷ []) ts (b.imported ts)
 unfolding b.imported
 imported_follow depth ts is =
     weaken (λ y us. imported_as y us)
-    (took (take is (λ e. absurd cc)) (go_on (named (next ts)) (λ origin us _. alias_by_follow depth origin us (kind us) refl)))
+    (took (take is (λ e. absurd cc))
+    (go_on (named (next ts)) (λ origin us _. alias_by_follow depth origin us (kind us) refl)))
 
 imported_some : (x : Import) (ts : Lexemes) → g.imported x ts → 0 < length ts
 imported_some x ts (inl (at, a, c, parts, token, after)) = begun a c ts parts token
@@ -56,31 +66,37 @@ imported_some x ts (inr (at, a, c, parts, token, after)) = begun a c ts parts to
 
 defined_follow : (depth : ℕ) (ts : Lexemes) → kind ts ≡ t.Def
     → Follows (g.defined depth)
-    (T t.Def ∷ T t.Name ∷ T t.OpenParen ∷ N (k.More k.Param) depth ∷ T t.CloseParen ∷ T t.Colon ∷ N k.Block depth ∷ []) ts (b.defined depth ts)
+    (T t.Def ∷ T t.Name ∷ T t.OpenParen ∷ N
+    (k.More k.Param) depth ∷ T t.CloseParen ∷ T t.Colon ∷ N k.Block depth ∷ []) ts (b.defined depth ts)
 unfolding b.defined
 defined_follow depth ts is =
     took (take is (λ e. absurd cc)) (go_on (named (next ts)) (λ called us _.
     go_on (expected us t.OpenParen (λ e. absurd cc)) (λ _ vs _.
     go_on (listed_items g.name k.Param depth p.name named vs) (λ params ws _.
     go_on (expected ws t.CloseParen (λ e. absurd cc)) (λ _ xs _.
-    go_on (expected xs t.Colon (λ e. absurd cc)) (λ _ ys _. ending (λ body. (called, params, body)) (block_follow depth ys)))))))
+    go_on (expected xs t.Colon (λ e. absurd cc))
+    (λ _ ys _. ending (λ body. (called, params, body)) (block_follow depth ys)))))))
 
 -- the weight is the number of lexemes that were taken
-weighed_fate : (depth : ℕ) (a : Stack) (ts : Lexemes) (o : Outcome (Name × List Name × List Stmt)) → Fate (g.defined depth) a ts o
+weighed_fate : (depth : ℕ) (a : Stack) (ts : Lexemes) (o : Outcome (Name × List Name × List Stmt))
+    → Fate (g.defined depth) a ts o
     → Fate (g.function depth) a ts (and_then o (λ q us. Ok (b.weighed q (length ts - length us), us)))
 weighed_fate depth a ts (Ok q) h = record {
   used = h.used;
   parts = h.parts;
   is = (h.is, omega (arith, ap length h.parts ∙ length-append h.used q.1));
+  unended = h.unended;
   leads = h.leads;
 }
 weighed_fate depth a ts (Err rest) h = h
 
 function_follow : (depth : ℕ) (ts : Lexemes) → kind ts ≡ t.Def
     → Follows (g.function depth)
-    (T t.Def ∷ T t.Name ∷ T t.OpenParen ∷ N (k.More k.Param) depth ∷ T t.CloseParen ∷ T t.Colon ∷ N k.Block depth ∷ []) ts (b.function depth ts)
+    (T t.Def ∷ T t.Name ∷ T t.OpenParen ∷ N
+    (k.More k.Param) depth ∷ T t.CloseParen ∷ T t.Colon ∷ N k.Block depth ∷ []) ts (b.function depth ts)
 unfolding b.function
-function_follow depth ts is = record { fate = weighed_fate depth _ ts (b.defined depth ts) (defined_follow depth ts is).fate }
+function_follow depth ts is =
+    record { fate = weighed_fate depth _ ts (b.defined depth ts) (defined_follow depth ts is).fate }
 
 function_some : (depth : ℕ) (x : Function) (ts : Lexemes) → g.function depth x ts → 0 < length ts
 function_some depth x ts ((at, a, c, parts, token, after), weight) = begun a c ts parts token
@@ -132,17 +148,21 @@ next_le : (ts : Lexemes) → length (next ts) ≤ length ts
 next_le [] = omega arith
 next_le (x ∷ xs) = omega arith
 
-part_by_follow : (depth : ℕ) (again : Halves → Parser Halves) (found : Halves) (ts : Lexemes) (kind' : Terminal) → kind ts ≡ kind'
-    → ((found : Halves) (us : Lexemes) → length us < length ts → Follows (Gathers depth found) (N k.Parts depth ∷ []) us (again found us))
+part_by_follow : (depth : ℕ) (again : Halves → Parser Halves) (found : Halves) (ts : Lexemes) (kind' : Terminal)
+    → kind ts ≡ kind'
+    → ((found : Halves) (us : Lexemes) → length us < length ts
+    → Follows (Gathers depth found) (N k.Parts depth ∷ []) us (again found us))
     → Follows (Gathers depth found) (N k.Parts depth ∷ []) ts (b.part_by depth again found kind' ts)
 part_by_follow depth again found ts t.Import is h =
     rule_by (ap (λ z. row k.Parts depth z) is)
     (weaken (λ y us. gathers_import depth found y us)
-    (go_on (imported_follow depth ts is) (λ x us taken. h (found.0 ++ x ∷ [], found.1) us (shorter taken (imported_some x taken.used taken.is)))))
+    (go_on (imported_follow depth ts is)
+    (λ x us taken. h (found.0 ++ x ∷ [], found.1) us (shorter taken (imported_some x taken.used taken.is)))))
 part_by_follow depth again found ts t.Def is h =
     rule_by (ap (λ z. row k.Parts depth z) is)
     (weaken (λ y us. gathers_function depth found y us)
-    (go_on (function_follow depth ts is) (λ x us taken. h (found.0, found.1 ++ x ∷ []) us (shorter taken (function_some depth x taken.used taken.is)))))
+    (go_on (function_follow depth ts is)
+    (λ x us taken. h (found.0, found.1 ++ x ∷ []) us (shorter taken (function_some depth x taken.used taken.is)))))
 part_by_follow depth again found ts t.Text is h =
     rule_by (ap (λ z. row k.Parts depth z) is)
     (weaken (λ y us. gathers_text depth found y us)
@@ -158,14 +178,16 @@ parts_from_follow : (depth n : ℕ) (found : Halves) (ts : Lexemes) → length t
 unfolding b.parts_from
 parts_from_follow depth zero found ts turns = absurd (omega arith)
 parts_from_follow depth (suc n) found ts turns =
-    part_by_follow depth (b.parts_from depth n) found ts (kind ts) refl (λ found' us left. parts_from_follow depth n found' us (omega arith))
+    part_by_follow depth (b.parts_from depth n) found ts (kind ts) refl
+    (λ found' us left. parts_from_follow depth n found' us (omega arith))
 
 parts_as : (depth : ℕ) (y : Halves) (us : Lexemes) → Gathers depth ([], []) y us → g.parts depth y us
 parts_as depth y us (xs, are, y_is) = (xs, us, [], sym (append-nil us), are, (y_is, refl))
 
 pub parts_follow : (depth : ℕ) (ts : Lexemes) → Follows (g.parts depth) (N k.Parts depth ∷ []) ts (b.parts depth ts)
 unfolding b.parts
-parts_follow depth ts = weaken (λ y us. parts_as depth y us) (parts_from_follow depth (suc (length ts)) ([], []) ts (omega arith))
+parts_follow depth ts =
+    weaken (λ y us. parts_as depth y us) (parts_from_follow depth (suc (length ts)) ([], []) ts (omega arith))
 
 -- ---- the end of a module
 
@@ -174,15 +196,20 @@ abbrev pub AtEnd : {A : Type 0} → Outcome A → Type 0
 AtEnd (Ok q) = kind q.1 ≡ t.End
 AtEnd (Err rest) = Unit {0}
 
-end_later : {A B : Type 0} (o : Outcome A) (f : A → Parser B) → ((x : A) (us : Lexemes) → AtEnd (f x us)) → AtEnd (and_then o f)
+end_later : {A B : Type 0} (o : Outcome A) (f : A → Parser B) → ((x : A) (us : Lexemes) → AtEnd (f x us))
+    → AtEnd (and_then o f)
 end_later (Ok q) f h = h q.0 q.1
 end_later (Err rest) f h = tt
 
-part_by_end : (depth : ℕ) (again : Halves → Parser Halves) (found : Halves) (ts : Lexemes) (kind' : Terminal) → kind ts ≡ kind'
+part_by_end : (depth : ℕ) (again : Halves → Parser Halves) (found : Halves) (ts : Lexemes) (kind' : Terminal)
+    → kind ts ≡ kind'
     → ((found : Halves) (us : Lexemes) → AtEnd (again found us)) → AtEnd (b.part_by depth again found kind' ts)
-part_by_end depth again found ts t.Import is h = end_later (b.imported ts) (λ x us. again (found.0 ++ x ∷ [], found.1) us) (λ x us. h _ us)
-part_by_end depth again found ts t.Def is h = end_later (b.function depth ts) (λ x us. again (found.0, found.1 ++ x ∷ []) us) (λ x us. h _ us)
-part_by_end depth again found ts t.Text is h = end_later (p.expect t.Newline (next ts)) (λ _ us. again found us) (λ _ us. h found us)
+part_by_end depth again found ts t.Import is h =
+    end_later (b.imported ts) (λ x us. again (found.0 ++ x ∷ [], found.1) us) (λ x us. h _ us)
+part_by_end depth again found ts t.Def is h =
+    end_later (b.function depth ts) (λ x us. again (found.0, found.1 ++ x ∷ []) us) (λ x us. h _ us)
+part_by_end depth again found ts t.Text is h = end_later (p.expect t.Newline (next ts)) (λ _ us. again found us)
+    (λ _ us. h found us)
 part_by_end depth again found ts t.End is h = is
 part_by_end depth again found ts _ is h = tt
 
@@ -195,17 +222,3 @@ parts_from_end depth (suc n) found ts =
 pub parts_end : (depth : ℕ) (ts : Lexemes) → AtEnd (b.parts depth ts)
 unfolding b.parts
 parts_end depth ts = parts_from_end depth (suc (length ts)) ([], []) ts
-
--- ---- what the parser of modules answers
-
--- what it reads is a module
-pub parts_module : (depth : ℕ) (ts : Lexemes) (halves : Halves) (rest : Lexemes) → b.parts depth ts ≡ Ok (halves, rest) → IsModule depth halves ts
-parts_module depth ts halves rest e =
-    let h : Fate (g.parts depth) (N k.Parts depth ∷ []) ts (Ok (halves, rest)) = (alike e (parts_follow depth ts)).fate in
-    let ended : kind rest ≡ t.End = subst (λ (o : Outcome Halves). AtEnd o) e (parts_end depth ts) in
-    (h.used, rest, h.parts, h.is, ended)
-
--- where it refuses, the symbols refuse
-pub parts_refused : (depth : ℕ) (ts rest : Lexemes) → b.parts depth ts ≡ Err rest → RefusedAt (N k.Parts depth ∷ []) ts rest
-parts_refused depth ts rest e =
-    let h : Fate (g.parts depth) (N k.Parts depth ∷ []) ts (Err rest) = (alike e (parts_follow depth ts)).fate in h []

@@ -9,7 +9,8 @@ use Rattle.py_lex.specs.declared.token.Tokens.{Tokens}
 use Rattle.py_parse.specs.NoteLists.{IsRising}
 
 -- spans in order from `at` on end no sooner than any place before `at`
-all-behind : (source : Bytes) (low at end : ℕ) (ts : List Token) → low ≤ at → InOrder at ts end → AllByRecursion (IsSpan source) ts →
+all-behind : (source : Bytes) (low at end : ℕ) (ts : List Token) → low ≤ at → InOrder at ts end
+    → AllByRecursion (IsSpan source) ts →
     AllByRecursion (λ t. low ≤ t.end) ts
 all-behind source low at end [] h order spans = tt
 all-behind source low at end (t ∷ ts) h order spans =
@@ -17,7 +18,8 @@ all-behind source low at end (t ∷ ts) h order spans =
     let first : low ≤ t.end = omega (arith, order.0) in
     (first, all-behind source low t.end end ts first order.1 spans.1)
 
-pub rising : (source : Bytes) (at end : ℕ) (ts : List Token) → InOrder at ts end → AllByRecursion (IsSpan source) ts → IsRising ts
+pub rising : (source : Bytes) (at end : ℕ) (ts : List Token) → InOrder at ts end → AllByRecursion (IsSpan source) ts
+    → IsRising ts
 rising source at end [] order spans = tt
 rising source at end (t ∷ ts) order spans =
     let near : t.end ≤ t.end = omega arith in

@@ -27,3 +27,4 @@ pub mod Rows
 pub mod Trailers
 pub mod Turns
 pub mod Values
+pub mod Viable

@@ -1,6 +1,7 @@
--- Laws of the stack of symbols alone: an end stays the end, a refusal leaves what stands behind it out, and comes at a lexeme
--- whatever stands behind that.
-use Rattle.std.proofs.Common.{◌≡◌, ℕ, zero, suc, ◌+◌, Bool, true, false, [], ◌∷◌, ◌++◌, length, Option, Some, None, refl, ap, sym, subst, ◌∙◌, length-append, suc-add, add_comm, arith, if◌then◌else◌}
+-- Laws of the stack of symbols alone: an end stays the end, a refusal leaves what stands behind it out, and comes at a
+-- lexeme whatever stands behind that.
+use Rattle.std.proofs.Common.{◌≡◌, ℕ, zero, suc, ◌+◌, Bool, true, false, [], ◌∷◌, ◌++◌, length, Option, Some, None}
+use Rattle.std.proofs.Common.{refl, ap, sym, subst, ◌∙◌, length-append, suc-add, add_comm, arith, if◌then◌else◌}
 use denote.Enum.Bare.{same_true, true_same}
 use Rattle.py_parse.specs.contracts.terminal.Terminal.{the_type}
 use Rattle.py_parse.specs.declared.terminal.Terminal.{Terminal}
@@ -34,28 +35,35 @@ more_row : (o : Option Stack) (f g : Stack → Verdict) (ts : Lexemes) (v : Verd
 more_row (Some s) f g ts v more e = more s e
 more_row None f g ts v more e = e
 
-one_more : (n : ℕ) (stack : Stack) (ts : Lexemes) (v : Verdict) → Ended v → run n stack ts ≡ v → run (suc n) stack ts ≡ v
+one_more : (n : ℕ) (stack : Stack) (ts : Lexemes) (v : Verdict) → Ended v → run n stack ts ≡ v
+    → run (suc n) stack ts ≡ v
 one_more zero stack ts v ended e = absurd (subst Ended (sym e) ended)
 one_more (suc n) [] ts v ended e = e
 one_more (suc n) (T k ∷ stack) ts v ended e =
-    more_if (same (kind ts) k) (run n stack (next ts)) (run (suc n) stack (next ts)) (Refused ts) v (one_more n stack (next ts) v ended) e
+    more_if (same (kind ts) k) (run n stack (next ts)) (run (suc n) stack (next ts)) (Refused ts) v
+    (one_more n stack (next ts) v ended) e
 one_more (suc n) (N rule d ∷ stack) ts v ended e =
     more_row (row rule d (kind ts)) (λ s. run n (s ++ stack) ts) (λ s. run (suc n) (s ++ stack) ts) ts v
     (λ s. one_more n (s ++ stack) ts v ended) e
 
-pub later : (m n : ℕ) (stack : Stack) (ts : Lexemes) (v : Verdict) → Ended v → run n stack ts ≡ v → run (m + n) stack ts ≡ v
+pub later : (m n : ℕ) (stack : Stack) (ts : Lexemes) (v : Verdict) → Ended v → run n stack ts ≡ v
+    → run (m + n) stack ts ≡ v
 later zero n stack ts v ended e = ap (λ (z : ℕ). run z stack ts) (omega arith) ∙ e
 later (suc m) n stack ts v ended e =
     ap (λ (z : ℕ). run z stack ts) (suc-add m n) ∙ one_more (m + n) stack ts v ended (later m n stack ts v ended e)
 
 -- a stack comes to one end
-pub one_end : (m n : ℕ) (stack : Stack) (ts : Lexemes) (v w : Verdict) → Ended v → Ended w → run m stack ts ≡ v → run n stack ts ≡ w → v ≡ w
+pub one_end : (m n : ℕ) (stack : Stack) (ts : Lexemes) (v w : Verdict) → Ended v → Ended w → run m stack ts ≡ v
+    → run n stack ts ≡ w → v ≡ w
 one_end m n stack ts v w ended ended' e e' =
-    sym (later n m stack ts v ended e) ∙ (ap (λ (z : ℕ). run z stack ts) (add_comm n m) ∙ later m n stack ts w ended' e')
+    sym (later n m stack ts v ended e)
+    ∙ (ap (λ (z : ℕ). run z stack ts) (add_comm n m) ∙ later m n stack ts w ended' e')
 
-pub one_refusal : (stack : Stack) (ts rest rest' : Lexemes) → RefusedAt stack ts rest → RefusedAt stack ts rest' → rest ≡ rest'
+pub one_refusal : (stack : Stack) (ts rest rest' : Lexemes) → RefusedAt stack ts rest → RefusedAt stack ts rest'
+    → rest ≡ rest'
 one_refusal stack ts rest rest' a b =
-    let same_end : Refused rest ≡ Refused rest' = one_end a.0 b.0 stack ts (Refused rest) (Refused rest') tt tt a.1 b.1 in cc
+    let same_end : Refused rest ≡ Refused rest' =
+    one_end a.0 b.0 stack ts (Refused rest) (Refused rest') tt tt a.1 b.1 in cc
 
 abbrev pub Accepts : Stack → Lexemes → Type 0
 Accepts stack ts = (n : ℕ) × (run n stack ts ≡ Accepted)
@@ -81,7 +89,8 @@ suffix_if : (b : Bool) (x : Verdict) (ts rest : Lexemes) → (x ≡ Refused rest
 suffix_if true x ts rest go e = go e
 suffix_if false x ts rest go e = ([], refused_same ts rest e)
 
-suffix_row : (o : Option Stack) (f : Stack → Verdict) (ts rest : Lexemes) → ((s : Stack) → f s ≡ Refused rest → EndsWith ts rest)
+suffix_row : (o : Option Stack) (f : Stack → Verdict) (ts rest : Lexemes)
+    → ((s : Stack) → f s ≡ Refused rest → EndsWith ts rest)
     → by_row o f ts ≡ Refused rest → EndsWith ts rest
 suffix_row (Some s) f ts rest go e = go s e
 suffix_row None f ts rest go e = ([], refused_same ts rest e)
@@ -91,7 +100,8 @@ suffix_from zero stack ts rest e = absurd cc
 suffix_from (suc n) [] ts rest e =
     suffix_if (same (kind ts) t.End) Accepted ts rest (λ (bad : Accepted ≡ Refused rest). absurd cc) e
 suffix_from (suc n) (T k ∷ stack) ts rest e =
-    suffix_if (same (kind ts) k) (run n stack (next ts)) ts rest (λ h. behind ts rest (suffix_from n stack (next ts) rest h)) e
+    suffix_if (same (kind ts) k) (run n stack (next ts)) ts rest
+    (λ h. behind ts rest (suffix_from n stack (next ts) rest h)) e
 suffix_from (suc n) (N rule d ∷ stack) ts rest e =
     suffix_row (row rule d (kind ts)) (λ s. run n (s ++ stack) ts) ts rest (λ s. suffix_from n (s ++ stack) ts rest) e
 
@@ -129,7 +139,8 @@ on_if : (b : Bool) (v x : Verdict) (y : Lexeme) (u r ts : Lexemes) → (x ≡ Re
 on_if true v x y u r ts go e = go e
 on_if false v x y u r ts go e = too_soon y u r e
 
-on_row : (o : Option Stack) (f g : Stack → Verdict) (y : Lexeme) (u r ts : Lexemes) → ((s : Stack) → f s ≡ Refused r → g s ≡ Refused ts)
+on_row : (o : Option Stack) (f g : Stack → Verdict) (y : Lexeme) (u r ts : Lexemes)
+    → ((s : Stack) → f s ≡ Refused r → g s ≡ Refused ts)
     → by_row o f (y ∷ (u ++ r)) ≡ Refused r → by_row o g (y ∷ (u ++ ts)) ≡ Refused ts
 on_row (Some s) f g y u r ts go e = go s e
 on_row None f g y u r ts go e = too_soon y u r e
@@ -144,16 +155,19 @@ refused_again (suc n) [] (x ∷ u) b r r' e =
 refused_again (suc n) (T k ∷ stack) [] b r r' e =
     here_if (same b.kind k) (run n stack r) (run n stack r') b r r' (λ h. too_late n stack b r h) e
 refused_again (suc n) (T k ∷ stack) (x ∷ u) b r r' e =
-    on_if (same x.kind k) (run n stack (u ++ b ∷ r')) (run n stack (u ++ b ∷ r)) x u (b ∷ r) (b ∷ r') (refused_again n stack u b r r') e
+    on_if (same x.kind k) (run n stack (u ++ b ∷ r')) (run n stack (u ++ b ∷ r)) x u (b ∷ r) (b ∷ r')
+    (refused_again n stack u b r r') e
 refused_again (suc n) (N rule d ∷ stack) [] b r r' e =
     here_row (row rule d b.kind) (λ s. run n (s ++ stack) (b ∷ r)) (λ s. run n (s ++ stack) (b ∷ r')) b r r'
     (λ s. refused_again n (s ++ stack) [] b r r') e
 refused_again (suc n) (N rule d ∷ stack) (x ∷ u) b r r' e =
-    on_row (row rule d x.kind) (λ s. run n (s ++ stack) (x ∷ (u ++ b ∷ r))) (λ s. run n (s ++ stack) (x ∷ (u ++ b ∷ r'))) x u (b ∷ r) (b ∷ r')
+    on_row (row rule d x.kind) (λ s. run n (s ++ stack) (x ∷ (u ++ b ∷ r)))
+    (λ s. run n (s ++ stack) (x ∷ (u ++ b ∷ r'))) x u (b ∷ r) (b ∷ r')
     (λ s. refused_again n (s ++ stack) (x ∷ u) b r r') e
 
 -- no lexemes that begin up to the refused one are accepted
-pub no_longer : (stack : Stack) (u : Lexemes) (b : Lexeme) (r r' : Lexemes) → RefusedAt stack (u ++ b ∷ r) (b ∷ r) → Accepts stack (u ++ b ∷ r') → ⊥
+pub no_longer : (stack : Stack) (u : Lexemes) (b : Lexeme) (r r' : Lexemes) → RefusedAt stack (u ++ b ∷ r) (b ∷ r)
+    → Accepts stack (u ++ b ∷ r') → ⊥
 no_longer stack u b r r' h accepts =
     not_both stack (u ++ b ∷ r') (b ∷ r') accepts (h.0, refused_again h.0 stack u b r r' h.1)
 
@@ -177,10 +191,12 @@ expand {K = K} {ts = ts} s e h = record {
 }
 
 -- a rule that takes nothing
-pub skip : {rule : Rule} {d : ℕ} {K : Stack} {ts : Lexemes} → row rule d (kind ts) ≡ Some [] → Leads (N rule d ∷ K) ts K ts
+pub skip : {rule : Rule} {d : ℕ} {K : Stack} {ts : Lexemes} → row rule d (kind ts) ≡ Some []
+    → Leads (N rule d ∷ K) ts K ts
 skip e = expand [] e stay
 
-pub eat : {k : Terminal} {K L : Stack} {x : Lexeme} {ts us : Lexemes} → x.kind ≡ k → Leads K ts L us → Leads (T k ∷ K) (x ∷ ts) L us
+pub eat : {k : Terminal} {K L : Stack} {x : Lexeme} {ts us : Lexemes} → x.kind ≡ k → Leads K ts L us
+    → Leads (T k ∷ K) (x ∷ ts) L us
 eat {k = k} {K = K} {x = x} {ts = ts} e h = record {
   by = λ n.
       let first = h.by n in

@@ -1,5 +1,6 @@
 -- The End stands behind every note, so each note has a first token behind it.
-use Rattle.std.proofs.Common.{◌≡◌, ℕ, ◌≤◌, Bool, true, false, cond, leb, not, ◌&&◌, List, [], ◌∷◌, length, refl, ap, sym, subst, arith}
+use Rattle.std.proofs.Common.{◌≡◌, ℕ, ◌≤◌, Bool, true, false, cond, leb, not, ◌&&◌, List, [], ◌∷◌, length, refl, ap}
+use Rattle.std.proofs.Common.{sym, subst, arith}
 use Rattle.std.proofs.lemmas.Bool.Decides.{nat_tests}
 use Rattle.std.proofs.lemmas.Grind.{common_steps}
 use Rattle.std.specs.List.{AllByRecursion, slice_range}
@@ -14,7 +15,8 @@ use Rattle.py_parse.specs.declared.tree.Note.{Note}
 use Rattle.py_parse.specs.Notes.{is_move, is_behind, next_of, notes_of, IsFirstBehind, AreFollowed}
 use Rattle.py_parse.specs.Parsed.{IsTree}
 
-found-by : (b : Bool) (note t : Token) (ts : List Token) → is_behind note t ≡ b → (b ≡ false → IsFirstBehind note ts (next_of note ts)) →
+found-by : (b : Bool) (note t : Token) (ts : List Token) → is_behind note t ≡ b
+    → (b ≡ false → IsFirstBehind note ts (next_of note ts)) →
     IsFirstBehind note (t ∷ ts) (cond b t (next_of note ts))
 found-by true note t ts e h = record { before = []; after = ts; parts = refl; behind = e; first = tt }
 found-by false note t ts e h =
@@ -28,7 +30,8 @@ found-by false note t ts e h =
     }
 
 -- a token without text ends where it starts
-empty-span : (source : Bytes) (start end : ℕ) → start ≤ end → end ≤ length source → slice_range source start end ≡ [] → start ≡ end
+empty-span : (source : Bytes) (start end : ℕ) → start ≤ end → end ≤ length source → slice_range source start end ≡ []
+    → start ≡ end
 empty-span source start end forward within e =
     let none : length (slice_range source start end) ≡ 0 = ap length e in
     grind (arith, common_steps, none)
@@ -36,12 +39,14 @@ empty-span source start end forward within e =
 spelled-end : (kind : TokenKind) (text : Bytes) → kind ≡ k.End → Spells kind text → text ≡ []
 spelled-end kind text e s = subst (λ (x : TokenKind). Spells x text) e s
 
-behind-test : (end start : ℕ) (kind : TokenKind) → end ≤ start → kind ≡ k.End → (leb end start && not (is_move kind)) ≡ true
+behind-test : (end start : ℕ) (kind : TokenKind) → end ≤ start → kind ≡ k.End
+    → (leb end start && not (is_move kind)) ≡ true
 behind-test end start kind h e =
     let still : is_move kind ≡ false = ap is_move e in
     grind (arith, nat_tests, still)
 
-end-behind : (source : Bytes) (note t : Token) → note.end ≤ length source → t.kind ≡ k.End → t.end ≡ length source → IsSpan source t →
+end-behind : (source : Bytes) (note t : Token) → note.end ≤ length source → t.kind ≡ k.End → t.end ≡ length source
+    → IsSpan source t →
     is_behind note t ≡ true
 end-behind source note t within is_end at_end span =
     let nothing : slice_range source t.start t.end ≡ [] = spelled-end t.kind (text_of source t) is_end span.spelled in
@@ -63,8 +68,10 @@ first_behind source note at (t ∷ u ∷ ts) within ends up spans =
     found-by (is_behind note t) note t (u ∷ ts) refl
     (λ e. first_behind source note t.end (u ∷ ts) within ends.1 up.2 spans.1)
 
-followed : (source : Bytes) (tokens : List Token) (notes : List Token) → EndsOnce tokens → MakesUp source 0 tokens (length source) →
-    AllByRecursion (IsSpan source) tokens → AllByRecursion (IsSpan source) notes → AreFollowed source tokens notes (notes_of source tokens notes)
+followed : (source : Bytes) (tokens : List Token) (notes : List Token) → EndsOnce tokens
+    → MakesUp source 0 tokens (length source) →
+    AllByRecursion (IsSpan source) tokens → AllByRecursion (IsSpan source) notes
+    → AreFollowed source tokens notes (notes_of source tokens notes)
 followed source tokens [] ends up spans note_spans = tt
 followed source tokens (note ∷ notes) ends up spans note_spans =
     let first : IsFirstBehind note tokens (next_of note tokens) =

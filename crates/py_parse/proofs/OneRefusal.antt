@@ -21,18 +21,22 @@ refusal_same q r a b =
     let R : Rule → Loc → Refusal = λ x y. record { rule = x; loc = y } in
     ap (λ (x : Rule). R x q.loc) a ∙ ap (R r.rule) b
 
-pub one_refusal : (source : Bytes) (tokens : Tokens) (q r : Refusal) → IsRefusal source tokens (stop.Refused q) → IsRefusal source tokens (stop.Refused r) → q ≡ r
+pub one_refusal : (source : Bytes) (tokens : Tokens) (q r : Refusal) → IsRefusal source tokens (stop.Refused q)
+    → IsRefusal source tokens (stop.Refused r) → q ≡ r
 one_refusal source tokens q r (q_rule, at, q_loc, here) (r_rule, there, r_loc, other) =
     let tails : at ∷ here.rest ≡ there ∷ other.rest =
-    machine.one_refusal (N Parts levels ∷ []) (lexemes source tokens.tokens) (at ∷ here.rest) (there ∷ other.rest) here.no_row other.no_row in
+    machine.one_refusal (N Parts levels ∷ []) (lexemes source tokens.tokens) (at ∷ here.rest)
+    (there ∷ other.rest) here.no_row other.no_row in
     let lexeme : at ≡ there = first_same at there here.rest other.rest tails in
     refusal_same q r (q_rule ∙ sym r_rule) (q_loc ∙ ap (λ (x : Lexeme). x.loc) lexeme ∙ sym r_loc)
 
-pub tree_or_refusal : (source : Bytes) (tokens : Tokens) (m : Module) (r : Refusal) → IsTree source tokens m → IsRefusal source tokens (stop.Refused r) → ⊥
+pub tree_or_refusal : (source : Bytes) (tokens : Tokens) (m : Module) (r : Refusal) → IsTree source tokens m
+    → IsRefusal source tokens (stop.Refused r) → ⊥
 tree_or_refusal source tokens m r tree (rule_is, at, loc_is, here) = here.no_tree (m.imports, m.functions) tree.grammar
 
 -- the clause `place` follows from `tree` and `refused`
-pub only_refusal : (source : Bytes) (tokens : Tokens) (result : Result Module Stop) → IfOk result (λ m. IsTree source tokens m) → IfErr result (IsRefusal source tokens)
+pub only_refusal : (source : Bytes) (tokens : Tokens) (result : Result Module Stop)
+    → IfOk result (λ m. IsTree source tokens m) → IfErr result (IsRefusal source tokens)
     → (r : Refusal) → IsRefusal source tokens (stop.Refused r) → IsOnlyRefusal r result
 only_refusal source tokens (Ok m) tree refused r is = tree_or_refusal source tokens m r tree is
 only_refusal source tokens (Err (stop.Refused q)) tree refused r is = one_refusal source tokens q r refused is

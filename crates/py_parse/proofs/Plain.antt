@@ -1,18 +1,26 @@
--- A plain completion of every stack that a module's rows make. The stack takes it, unless it has come to a block for which no level is
--- left; the stack with one level more takes it then.
-use Rattle.std.proofs.Common.{◌≡◌, ℕ, zero, suc, ◌==◌, ◌⊎◌, inl, inr, Bool, true, false, List, [], ◌∷◌, ◌++◌, map, Option, Some, None, refl, ap, sym, subst, ◌∙◌, if◌then◌else◌}
+-- A plain completion of every stack that a module's rows make. The stack takes it, unless it has come to a block for
+-- which no level is left; the stack with one level more takes it then.
+use Rattle.std.proofs.Common.{◌≡◌, ℕ, zero, suc, ◌==◌, ◌⊎◌, inl, inr, Bool, true, false, List, [], ◌∷◌, ◌++◌, map}
+use Rattle.std.proofs.Common.{Option, Some, None, refl, ap, sym, subst, ◌∙◌, if◌then◌else◌}
 use Rattle.py_parse.specs.declared.terminal.Terminal.{Terminal}
 use Rattle.py_parse.specs.declared.terminal.Terminal.TheVariants as t
 use Rattle.py_parse.specs.Lexemes.{Lexeme, Lexemes, same}
 use Rattle.py_parse.specs.Parser.{kind}
 use Rattle.py_parse.specs.Trees.{operator_at, comparison, augmented, sign}
-use Rattle.py_parse.specs.Stack.{Symbol, Stack, Rule, T, N, Item, Param, Value, Element, Argument, Subscript, Expr, Ors, Conjunction, Ands, Inverted, Compared, Comparison, Chain, Links, Unary, Power, Exponent, Primary, Atom, Parenthesis, Trailers, Arg, Keyed, Subscripted, Sliced, Cut, Bound, Step, Items, More, Comma, Simple, Stored, Line, Block, Indented, Stmts, Stmt, Tail, Alias, Parts, row, with_operator, signed_row, close_of, item_symbol, run, by_row, Verdict, Accepted, Refused, Unfinished, RefusedAt}
-use Rattle.py_parse.proofs.Follows.{Leads}
-use Rattle.py_parse.proofs.Machine.{same_self, one_kind, Accepts, EndsWith, not_both, refused_same, too_soon, stay, then_on, expand, skip, eat, accepts_on}
+use Rattle.py_parse.specs.Stack.{Symbol, Stack, Rule, T, N, Item, Param, Value, Element, Argument, Subscript, Expr, Ors}
+use Rattle.py_parse.specs.Stack.{Conjunction, Ands, Inverted, Compared, Comparison, Chain, Links, Unary, Power}
+use Rattle.py_parse.specs.Stack.{Exponent, Primary, Atom, Parenthesis, Trailers, Arg, Keyed, Subscripted, Sliced, Cut}
+use Rattle.py_parse.specs.Stack.{Bound, Step, Items, More, Comma, Simple, Stored, Line, Block, Indented, Stmts, Stmt}
+use Rattle.py_parse.specs.Stack.{Tail, Alias, Parts, row, with_operator, signed_row, close_of, item_symbol, run, by_row}
+use Rattle.py_parse.specs.Stack.{Verdict, Accepted, Refused, Unfinished, RefusedAt}
+use Rattle.py_parse.proofs.Follows.{Unended, Leads}
+use Rattle.py_parse.proofs.Machine.{same_self, one_kind, Accepts, EndsWith, not_both, refused_same, too_soon, stay}
+use Rattle.py_parse.proofs.Machine.{then_on, expand, skip, eat, accepts_on}
 
 -- ---- plain completions
 
--- the terminals of a rule's plainest reading: an expression is a name, a block `pass` on its line, and what may be left out is left out
+-- the terminals of a rule's plainest reading: an expression is a name, a block `pass` on its line, and what may be left
+-- out is left out
 abbrev pub word : Rule → List Terminal
 word Expr = t.Name ∷ []
 word Ors = []
@@ -61,7 +69,8 @@ plain (N rule d ∷ K) = map plain_lexeme (word rule) ++ plain K
 
 -- ---- what may follow a rule in the plain completion
 
--- the levels at which the rest of a block behind its Newline may stand on a stack: each, or all but the last, which leaves none for it
+-- the levels at which the rest of a block behind its Newline may stand on a stack: each, or all but the last, which
+-- leaves none for it
 abbrev pub Each : ℕ → Type 0
 Each d = Unit {0}
 
@@ -126,12 +135,14 @@ GoodRow L (Some s) K = Good L (s ++ K)
 
 -- ---- rows keep it
 
-operated : {A : Type 0} (L : ℕ → Type 0) (o : Option A) (s K : Stack) → ((x : A) → o ≡ Some x → Good L (s ++ K)) → Good L K
+operated : {A : Type 0} (L : ℕ → Type 0) (o : Option A) (s K : Stack) → ((x : A) → o ≡ Some x → Good L (s ++ K))
+    → Good L K
     → GoodRow L (with_operator o s) K
 operated L (Some x) s K with_it without = with_it x refl
 operated L None s K with_it without = without
 
-chosen : (L : ℕ → Type 0) (b : Bool) (s r K : Stack) → Good L (s ++ K) → Good L (r ++ K) → GoodRow L (if b then Some s else Some r) K
+chosen : (L : ℕ → Type 0) (b : Bool) (s r K : Stack) → Good L (s ++ K) → Good L (r ++ K)
+    → GoodRow L (if b then Some s else Some r) K
 chosen L true s r K first second = first
 chosen L false s r K first second = second
 
@@ -146,7 +157,8 @@ no_operator : (n : ℕ) → operator_at (suc n) t.End ≡ None
 unfolding operator_at
 no_operator n = either (0 == suc n) None
 
-signed_good : (L : ℕ → Type 0) (o : Option ℕ) (k : Terminal) (e d : ℕ) (K : Stack) → ((x : ℕ) → o ≡ Some x → k ≡ t.End → ⊥)
+signed_good : (L : ℕ → Type 0) (o : Option ℕ) (k : Terminal) (e d : ℕ) (K : Stack)
+    → ((x : ℕ) → o ≡ Some x → k ≡ t.End → ⊥)
     → closes (kind (plain K)) ≡ true → Good L K → GoodRow L (signed_row o k e d) K
 signed_good L (Some x) k zero d K end f g = tt
 signed_good L (Some x) k (suc e) d K end f g = (end x refl, (f, g))
@@ -161,7 +173,8 @@ item_good L Argument d K f g = (f, (f, g))
 item_good L Subscript d K f g = (f, (f, g))
 
 -- one row alone makes the rest of a block behind its Newline, whose level is given
-pub keeps : (L : ℕ → Type 0) (rule : Rule) (d : ℕ) (k : Terminal) (K : Stack) → Fits L rule d (kind (plain K)) → Good L K
+pub keeps : (L : ℕ → Type 0) (rule : Rule) (d : ℕ) (k : Terminal) (K : Stack) → Fits L rule d (kind (plain K))
+    → Good L K
     → (rule ≡ Block → k ≡ t.Newline → L d) → GoodRow L (row rule d k) K
 keeps L Expr d k K f g l = (f, (f, g))
 keeps L Ors d t.Or K f g l = ((λ e. absurd cc), (f, (f, g)))
@@ -180,7 +193,11 @@ keeps L (Chain zero e) d k K f g l = (f, g)
 keeps L (Chain (suc n) e) d k K f g l = (f, (f, g))
 keeps L (Links n) d k K f g l =
     operated L (operator_at (suc n) k) (T k ∷ N (Chain n d) d ∷ N (Links n) d ∷ []) K
-    (λ x is. ((λ (end : k ≡ t.End). let h : None ≡ Some x = sym (no_operator n) ∙ (sym (ap (operator_at (suc n)) end) ∙ is) in absurd cc), (f, (f, g)))) g
+    (λ x is. (
+      (λ (end : k ≡ t.End). let h : None ≡ Some x = sym (no_operator n)
+          ∙ (sym (ap (operator_at (suc n)) end) ∙ is) in absurd cc),
+      (f, (f, g)),
+    )) g
 keeps L (Unary e) d k K f g l = signed_good L (sign k) k e d K (no_sign k) f g
 keeps L (Power e) d k K f g l = (f, (f, g))
 keeps L Exponent d t.Power K f g l = ((λ e. absurd cc), ((λ e. absurd cc), g))
@@ -228,7 +245,11 @@ keeps L Simple d _ K f g l = tt
 keeps L Stored d t.Assign K f g l = ((λ e. absurd cc), (ap closes f, g))
 keeps L Stored d k K f g l =
     operated L (augmented k) (T k ∷ N Expr d ∷ []) K
-    (λ x is. ((λ (end : k ≡ t.End). let h : None ≡ Some x = sym (ap augmented end) ∙ is in absurd cc), (ap closes f, g))) g
+    (λ x is. (
+      (λ (end : k ≡ t.End). let h : None ≡ Some x = sym (ap augmented end)
+          ∙ is in absurd cc),
+      (ap closes f, g),
+    )) g
 keeps L Line d k K f g l = (refl, ((λ e. absurd cc), g))
 keeps L Block d t.Newline K f g l = ((λ e. absurd cc), (l refl refl, g))
 keeps L Block d _ K f g l = (tt, g)
@@ -237,7 +258,8 @@ keeps L Indented (suc d) k K f g l = ((λ e. absurd cc), (refl, (refl, ((λ e. a
 keeps L Stmts d t.Dedent K f g l = g
 keeps L Stmts d _ K f g l = (f, (f, g))
 keeps L Stmt d t.If K f g l = ((λ e. absurd cc), (refl, ((λ e. absurd cc), (tt, (f, g)))))
-keeps L Stmt d t.For K f g l = ((λ e. absurd cc), ((λ e. absurd cc), ((λ e. absurd cc), (refl, ((λ e. absurd cc), (tt, g))))))
+keeps L Stmt d t.For K f g l =
+    ((λ e. absurd cc), ((λ e. absurd cc), ((λ e. absurd cc), (refl, ((λ e. absurd cc), (tt, g))))))
 keeps L Stmt d _ K f g l = (tt, g)
 keeps L Tail zero t.Elif K f g l = tt
 keeps L Tail (suc d) t.Elif K f g l = ((λ e. absurd cc), (refl, ((λ e. absurd cc), (tt, (f, g)))))
@@ -246,41 +268,54 @@ keeps L Tail d _ K f g l = g
 keeps L Alias d t.As K f g l = ((λ e. absurd cc), ((λ e. absurd cc), ((λ e. absurd cc), g)))
 keeps L Alias d _ K f g l = ((λ e. absurd cc), g)
 keeps L Parts d t.Import K f g l = ((λ e. absurd cc), ((λ e. absurd cc), (tt, (f, g))))
-keeps L Parts d t.Def K f g l =
-    ((λ e. absurd cc), ((λ e. absurd cc), ((λ e. absurd cc), (refl, ((λ e. absurd cc), ((λ e. absurd cc), (tt, (f, g))))))))
+keeps L Parts d t.Def K f g l = (
+  (λ e. absurd cc),
+  (
+    (λ e. absurd cc),
+    ((λ e. absurd cc), (refl, ((λ e. absurd cc), ((λ e. absurd cc), (tt, (f, g)))))),
+  ),
+)
 keeps L Parts d t.Text K f g l = ((λ e. absurd cc), ((λ e. absurd cc), (f, g)))
 keeps L Parts d t.End K f g l = g
 keeps L Parts d _ K f g l = tt
 
 -- ---- nothing takes the end
 
-end_if : (b : Bool) (x : Verdict) (ts rest : Lexemes) → (b ≡ true → ⊥) → (if b then x else Refused ts) ≡ Refused rest → rest ≡ ts
+end_if : (b : Bool) (x : Verdict) (ts rest : Lexemes) → (b ≡ true → ⊥) → (if b then x else Refused ts) ≡ Refused rest
+    → rest ≡ ts
 end_if true x ts rest never e = absurd (never refl)
 end_if false x ts rest never e = sym (refused_same ts rest e)
 
-last_if : (b : Bool) (x : Verdict) (u : Lexemes) (last : Lexeme) (rest : Lexemes) → (x ≡ Refused rest → EndsWith rest (last ∷ []))
+last_if : (b : Bool) (x : Verdict) (u : Lexemes) (last : Lexeme) (rest : Lexemes)
+    → (x ≡ Refused rest → EndsWith rest (last ∷ []))
     → (if b then x else Refused (u ++ last ∷ [])) ≡ Refused rest → EndsWith rest (last ∷ [])
 last_if true x u last rest go e = go e
 last_if false x u last rest go e = (u, sym (refused_same (u ++ last ∷ []) rest e))
 
-last_row : (o : Option Stack) (f : Stack → Verdict) (K : Stack) (u : Lexemes) (last : Lexeme) (rest : Lexemes) → GoodRow Each o K
+last_row : (o : Option Stack) (f : Stack → Verdict) (K : Stack) (u : Lexemes) (last : Lexeme) (rest : Lexemes)
+    → GoodRow Each o K
     → ((s : Stack) → Good Each (s ++ K) → f s ≡ Refused rest → EndsWith rest (last ∷ []))
     → by_row o f (u ++ last ∷ []) ≡ Refused rest → EndsWith rest (last ∷ [])
 last_row (Some s) f K u last rest good go e = go s good e
 last_row None f K u last rest good go e = (u, sym (refused_same (u ++ last ∷ []) rest e))
 
-pub before_end : (n : ℕ) (stack : Stack) (u : Lexemes) (last : Lexeme) (rest : Lexemes) → Good Each stack → last.kind ≡ t.End
+pub before_end : (n : ℕ) (stack : Stack) (u : Lexemes) (last : Lexeme) (rest : Lexemes) → Good Each stack
+    → last.kind ≡ t.End
     → run n stack (u ++ last ∷ []) ≡ Refused rest → EndsWith rest (last ∷ [])
 before_end zero stack u last rest good is e = absurd cc
 before_end (suc n) [] u last rest good is e =
     last_if (same (kind (u ++ last ∷ [])) t.End) Accepted u last rest (λ (bad : Accepted ≡ Refused rest). absurd cc) e
-before_end (suc n) (T k ∷ K) [] last rest good is e =
-    ([], end_if (same last.kind k) (run n K []) (last ∷ []) rest (λ here. good.0 (sym (one_kind last.kind k here) ∙ is)) e)
+before_end (suc n) (T k ∷ K) [] last rest good is e = (
+  [],
+  end_if (same last.kind k) (run n K []) (last ∷ []) rest (λ here. good.0 (sym (one_kind last.kind k here)
+      ∙ is)) e,
+)
 before_end (suc n) (T k ∷ K) (x ∷ u) last rest good is e =
     last_if (same x.kind k) (run n K (u ++ last ∷ [])) (x ∷ u) last rest (before_end n K u last rest good.1 is) e
 before_end (suc n) (N rule d ∷ K) u last rest good is e =
     last_row (row rule d (kind (u ++ last ∷ []))) (λ s. run n (s ++ K) (u ++ last ∷ [])) K u last rest
-    (keeps Each rule d (kind (u ++ last ∷ [])) K good.0 good.1 (λ _ _. tt)) (λ s fine. before_end n (s ++ K) u last rest fine is) e
+    (keeps Each rule d (kind (u ++ last ∷ [])) K good.0 good.1 (λ _ _. tt))
+    (λ s fine. before_end n (s ++ K) u last rest fine is) e
 
 -- ---- one level more
 
@@ -302,7 +337,8 @@ abbrev rises : Option Stack → Option Stack
 rises (Some s) = Some (map raised s)
 rises None = None
 
-operator_raised : {A : Type 0} (o : Option A) (s r : Stack) → with_operator o s ≡ Some r → with_operator o (map raised s) ≡ Some (map raised r)
+operator_raised : {A : Type 0} (o : Option A) (s r : Stack) → with_operator o s ≡ Some r
+    → with_operator o (map raised s) ≡ Some (map raised r)
 operator_raised (Some x) s r is = ap rises is
 operator_raised None s r is = ap rises is
 
@@ -317,7 +353,8 @@ choice_raised : (b : Bool) (s r q : Stack) → (if b then Some s else Some r) �
 choice_raised true s r q is = ap rises is
 choice_raised false s r q is = ap rises is
 
-pub raise : (rule : Rule) (d : ℕ) (k : Terminal) (s : Stack) → row rule d k ≡ Some s → row (raised_rule rule) (suc d) k ≡ Some (map raised s)
+pub raise : (rule : Rule) (d : ℕ) (k : Terminal) (s : Stack) → row rule d k ≡ Some s
+    → row (raised_rule rule) (suc d) k ≡ Some (map raised s)
 raise Expr d k s is = ap rises is
 raise Ors d t.Or s is = ap rises is
 raise Ors d _ s is = ap rises is
@@ -415,7 +452,8 @@ record Stops (f : Terminal) : Type 0 where
   exponent : (d : ℕ) → row Exponent d f ≡ Some []
   trailers : (d : ℕ) → row Trailers d f ≡ Some []
 
-no_link : (n d : ℕ) (f : Terminal) (s : Stack) → operator_at (suc n) f ≡ None → with_operator (operator_at (suc n) f) s ≡ Some []
+no_link : (n d : ℕ) (f : Terminal) (s : Stack) → operator_at (suc n) f ≡ None
+    → with_operator (operator_at (suc n) f) s ≡ Some []
 no_link n d f s is = ap (λ o. with_operator o s) is
 
 stops : (f : Terminal) → closes f ≡ true → Stops f
@@ -457,30 +495,36 @@ stops _ c = absurd cc
 abbrev a_name : Lexemes → Lexemes
 a_name ts = plain_lexeme t.Name ∷ ts
 
-primary_eats : (e d : ℕ) (K : Stack) (ts : Lexemes) → closes (kind ts) ≡ true → Leads (N (Primary e) d ∷ K) (a_name ts) K ts
+primary_eats : (e d : ℕ) (K : Stack) (ts : Lexemes) → closes (kind ts) ≡ true
+    → Leads (N (Primary e) d ∷ K) (a_name ts) K ts
 primary_eats e d K ts c =
-    expand (N (Atom e) d ∷ N Trailers d ∷ []) refl (expand (T t.Name ∷ []) refl (eat refl (skip ((stops (kind ts) c).trailers d))))
+    expand (N (Atom e) d ∷ N Trailers d ∷ []) refl
+    (expand (T t.Name ∷ []) refl (eat refl (skip ((stops (kind ts) c).trailers d))))
 
 unary_eats : (e d : ℕ) (K : Stack) (ts : Lexemes) → closes (kind ts) ≡ true → Leads (N (Unary e) d ∷ K) (a_name ts) K ts
 unary_eats e d K ts c =
     expand (N (Power e) d ∷ []) refl (expand (N (Primary e) d ∷ N Exponent d ∷ []) refl
     (then_on (primary_eats e d (N Exponent d ∷ K) ts c) (skip ((stops (kind ts) c).exponent d))))
 
-chain_eats : (n e d : ℕ) (K : Stack) (ts : Lexemes) → closes (kind ts) ≡ true → Leads (N (Chain n e) d ∷ K) (a_name ts) K ts
+chain_eats : (n e d : ℕ) (K : Stack) (ts : Lexemes) → closes (kind ts) ≡ true
+    → Leads (N (Chain n e) d ∷ K) (a_name ts) K ts
 chain_eats zero e d K ts c = expand (N (Unary e) d ∷ []) refl (unary_eats e d K ts c)
 chain_eats (suc n) e d K ts c =
     expand (N (Chain n e) d ∷ N (Links n) d ∷ []) refl
     (then_on (chain_eats n e d (N (Links n) d ∷ K) ts c) (skip ((stops (kind ts) c).links n d)))
 
-compared_eats : (e d : ℕ) (K : Stack) (ts : Lexemes) → closes (kind ts) ≡ true → Leads (N (Compared e) d ∷ K) (a_name ts) K ts
+compared_eats : (e d : ℕ) (K : Stack) (ts : Lexemes) → closes (kind ts) ≡ true
+    → Leads (N (Compared e) d ∷ K) (a_name ts) K ts
 compared_eats e d K ts c =
     expand (N (Chain 6 e) d ∷ N Comparison d ∷ []) refl
     (then_on (chain_eats 6 e d (N Comparison d ∷ K) ts c) (skip ((stops (kind ts) c).comparison d)))
 
-inverted_eats : (e d : ℕ) (K : Stack) (ts : Lexemes) → closes (kind ts) ≡ true → Leads (N (Inverted e) d ∷ K) (a_name ts) K ts
+inverted_eats : (e d : ℕ) (K : Stack) (ts : Lexemes) → closes (kind ts) ≡ true
+    → Leads (N (Inverted e) d ∷ K) (a_name ts) K ts
 inverted_eats e d K ts c = expand (N (Compared e) d ∷ []) refl (compared_eats e d K ts c)
 
-conjunction_eats : (d : ℕ) (K : Stack) (ts : Lexemes) → closes (kind ts) ≡ true → Leads (N Conjunction d ∷ K) (a_name ts) K ts
+conjunction_eats : (d : ℕ) (K : Stack) (ts : Lexemes) → closes (kind ts) ≡ true
+    → Leads (N Conjunction d ∷ K) (a_name ts) K ts
 conjunction_eats d K ts c =
     expand (N (Inverted d) d ∷ N Ands d ∷ []) refl
     (then_on (inverted_eats d d (N Ands d ∷ K) ts c) (skip ((stops (kind ts) c).ands d)))
@@ -492,36 +536,45 @@ expr_eats d K ts c =
 
 arg_eats : (d : ℕ) (K : Stack) (ts : Lexemes) → kind ts ≡ t.CloseParen → Leads (N Arg d ∷ K) (a_name ts) K ts
 arg_eats d K ts is =
-    expand (N Expr d ∷ N Keyed d ∷ []) refl (then_on (expr_eats d (N Keyed d ∷ K) ts (ap closes is)) (skip (ap (row Keyed d) is)))
+    expand (N Expr d ∷ N Keyed d ∷ []) refl
+    (then_on (expr_eats d (N Keyed d ∷ K) ts (ap closes is)) (skip (ap (row Keyed d) is)))
 
-subscripted_eats : (d : ℕ) (K : Stack) (ts : Lexemes) → kind ts ≡ t.CloseBracket → Leads (N Subscripted d ∷ K) (a_name ts) K ts
+subscripted_eats : (d : ℕ) (K : Stack) (ts : Lexemes) → kind ts ≡ t.CloseBracket
+    → Leads (N Subscripted d ∷ K) (a_name ts) K ts
 subscripted_eats d K ts is =
-    expand (N Expr d ∷ N Sliced d ∷ []) refl (then_on (expr_eats d (N Sliced d ∷ K) ts (ap closes is)) (skip (ap (row Sliced d) is)))
+    expand (N Expr d ∷ N Sliced d ∷ []) refl
+    (then_on (expr_eats d (N Sliced d ∷ K) ts (ap closes is)) (skip (ap (row Sliced d) is)))
 
-comma_eats : (item : Item) (d : ℕ) (K : Stack) (ts : Lexemes) → kind ts ≡ close_of item → Leads (N (Comma item) d ∷ K) ts K ts
+comma_eats : (item : Item) (d : ℕ) (K : Stack) (ts : Lexemes) → kind ts ≡ close_of item
+    → Leads (N (Comma item) d ∷ K) ts K ts
 comma_eats Param d K ts is = skip (ap (row (Comma Param) d) is)
 comma_eats Value d K ts is = skip (ap (row (Comma Value) d) is)
 comma_eats Element d K ts is = skip (ap (row (Comma Element) d) is)
 comma_eats Argument d K ts is = skip (ap (row (Comma Argument) d) is)
 comma_eats Subscript d K ts is = skip (ap (row (Comma Subscript) d) is)
 
-item_eats : (item : Item) (d : ℕ) (K : Stack) (ts : Lexemes) → kind ts ≡ close_of item → Leads (item_symbol item d ∷ K) (a_name ts) K ts
+item_eats : (item : Item) (d : ℕ) (K : Stack) (ts : Lexemes) → kind ts ≡ close_of item
+    → Leads (item_symbol item d ∷ K) (a_name ts) K ts
 item_eats Param d K ts is = eat refl stay
 item_eats Value d K ts is = expr_eats d K ts (ap closes is)
 item_eats Element d K ts is = expr_eats d K ts (ap closes is)
 item_eats Argument d K ts is = arg_eats d K ts is
 item_eats Subscript d K ts is = subscripted_eats d K ts is
 
-line_eats : (d : ℕ) (K : Stack) (ts : Lexemes) → Leads (N Line d ∷ K) (plain_lexeme t.Pass ∷ plain_lexeme t.Newline ∷ ts) K ts
+line_eats : (d : ℕ) (K : Stack) (ts : Lexemes)
+    → Leads (N Line d ∷ K) (plain_lexeme t.Pass ∷ plain_lexeme t.Newline ∷ ts) K ts
 line_eats d K ts =
     expand (N Simple d ∷ T t.Newline ∷ []) refl (expand (T t.Pass ∷ []) refl (eat refl (eat refl stay)))
 
-stmt_eats : (d : ℕ) (K : Stack) (ts : Lexemes) → Leads (N Stmt d ∷ K) (plain_lexeme t.Pass ∷ plain_lexeme t.Newline ∷ ts) K ts
+stmt_eats : (d : ℕ) (K : Stack) (ts : Lexemes)
+    → Leads (N Stmt d ∷ K) (plain_lexeme t.Pass ∷ plain_lexeme t.Newline ∷ ts) K ts
 stmt_eats d K ts = expand (N Line d ∷ []) refl (line_eats d K ts)
 
-more_eats : (item : Item) (d : ℕ) (K : Stack) (ts : Lexemes) → kind ts ≡ close_of item → Leads (N (More item) d ∷ K) ts K ts
+more_eats : (item : Item) (d : ℕ) (K : Stack) (ts : Lexemes) → kind ts ≡ close_of item
+    → Leads (N (More item) d ∷ K) ts K ts
 more_eats item d K ts is =
-    skip (ap (row (More item) d) is ∙ ap (λ (b : Bool). if b then Some [] else Some (N (Items item) d ∷ [])) (same_self (close_of item)))
+    skip (ap (row (More item) d) is
+    ∙ ap (λ (b : Bool). if b then Some [] else Some (N (Items item) d ∷ [])) (same_self (close_of item)))
 
 eats : (rule : Rule) (d : ℕ) (K : Stack) (ts : Lexemes) → Fits Leaves rule d (kind ts)
     → Leads (N rule d ∷ K) (map plain_lexeme (word rule) ++ ts) K ts
@@ -564,7 +617,8 @@ eats Block d K ts f = expand (N Line d ∷ []) refl (line_eats d K ts)
 eats Indented zero K ts f = absurd (f refl)
 eats Indented (suc d) K ts f =
     expand (T t.Indent ∷ N Stmt d ∷ N Stmts d ∷ T t.Dedent ∷ []) refl
-    (eat refl (then_on (stmt_eats d (N Stmts d ∷ T t.Dedent ∷ K) (plain_lexeme t.Dedent ∷ ts)) (then_on (skip refl) (eat refl stay))))
+    (eat refl (then_on (stmt_eats d (N Stmts d ∷ T t.Dedent ∷ K) (plain_lexeme t.Dedent ∷ ts))
+    (then_on (skip refl) (eat refl stay))))
 eats Stmts d K ts f = skip (ap (row Stmts d) f)
 eats Stmt d K ts f = stmt_eats d K ts
 eats Tail d K ts f = skip (ap (row Tail d) f)
@@ -587,148 +641,18 @@ raised_plain : (K : Stack) → plain (map raised K) ≡ plain K
 raised_plain [] = refl
 raised_plain (T k ∷ K) = ap (λ z. plain_lexeme k ∷ z) (raised_plain K)
 raised_plain (N rule d ∷ K) =
-    ap (λ z. map plain_lexeme z ++ plain (map raised K)) (raised_word rule) ∙ ap (λ z. map plain_lexeme (word rule) ++ z) (raised_plain K)
+    ap (λ z. map plain_lexeme z ++ plain (map raised K)) (raised_word rule)
+    ∙ ap (λ z. map plain_lexeme (word rule) ++ z) (raised_plain K)
 
 raised_fits : (rule : Rule) (d : ℕ) (f : Terminal) → Fits Leaves rule d f → Fits Leaves (raised_rule rule) (suc d) f
 raised_fits Indented d f fits = λ e. absurd cc
 raised_fits _ d f fits = fits
 
-raised_good : (K : Stack) → Good Leaves K → Good Leaves (map raised K)
+pub raised_good : (K : Stack) → Good Leaves K → Good Leaves (map raised K)
 raised_good [] good = tt
 raised_good (T k ∷ K) good = (good.0, raised_good K good.1)
-raised_good (N rule d ∷ K) good =
-    (raised_fits rule d (kind (plain (map raised K))) (subst (λ z. Fits Leaves rule d (kind z)) (sym (raised_plain K)) good.0), raised_good K good.1)
-
--- ---- what stands before a refused lexeme goes on to what is accepted
-
-raised_append : (s K : Stack) → map raised (s ++ K) ≡ map raised s ++ map raised K
-raised_append [] K = refl
-raised_append (x ∷ s) K = ap (λ z. raised x ∷ z) (raised_append s K)
-
-go_if : {A : Type 0} (b : Bool) (v : Verdict) (x : Lexeme) (u rest : Lexemes) → (b ≡ true → v ≡ Refused rest → A)
-    → (if b then v else Refused (x ∷ (u ++ rest))) ≡ Refused rest → A
-go_if true v x u rest go e = go refl e
-go_if false v x u rest go e = too_soon x u rest e
-
-go_row : {A : Type 0} (o : Option Stack) (f : Stack → Verdict) (x : Lexeme) (u rest : Lexemes) → ((s : Stack) → o ≡ Some s → f s ≡ Refused rest → A)
-    → by_row o f (x ∷ (u ++ rest)) ≡ Refused rest → A
-go_row (Some s) f x u rest go e = go s refl e
-go_row None f x u rest go e = too_soon x u rest e
-
--- each block on the stack has a level, or the one on top alone has none
-abbrev Due : Stack → Type 0
-Due K = Good Leaves K ⊎ ((L : Stack) × (K ≡ N Indented zero ∷ L) × Good Leaves L)
-
--- the stack takes all these, with one level more too
-record Arrives (stack : Stack) (used : Lexemes) : Type 0 where
-  there : Stack
-  due : Due there
-  leads : (more : Lexemes) → Leads stack (used ++ more) there more
-  raised_leads : (more : Lexemes) → Leads (map raised stack) (used ++ more) (map raised there) more
-
-arrived : (K : Stack) → Due K → Arrives K []
-arrived K due = record { there = K; due = due; leads = λ more. stay; raised_leads = λ more. stay }
-
-taken : (k : Terminal) (K : Stack) (x : Lexeme) (u : Lexemes) → x.kind ≡ k → Arrives K u → Arrives (T k ∷ K) (x ∷ u)
-taken k K x u is h = record {
-  there = h.there;
-  due = h.due;
-  leads = λ more. eat is (h.leads more);
-  raised_leads = λ more. eat is (h.raised_leads more);
-}
-
-expanded : (rule : Rule) (d : ℕ) (s K : Stack) (x : Lexeme) (u : Lexemes) → row rule d x.kind ≡ Some s → Arrives (s ++ K) (x ∷ u) → Arrives (N rule d ∷ K) (x ∷ u)
-expanded rule d s K x u is h = record {
-  there = h.there;
-  due = h.due;
-  leads = λ more. expand s is (h.leads more);
-  raised_leads = λ more.
-      expand (map raised s) (raise rule d x.kind s is)
-      (subst (λ z. Leads z (x ∷ (u ++ more)) (map raised h.there) more) (raised_append s K) (h.raised_leads more));
-}
-
--- whether it is a block that begins with a Newline and has no level
-block : (rule : Rule) (d : ℕ) (k : Terminal) → ((rule ≡ Block) × (k ≡ t.Newline) × (d ≡ zero)) ⊎ (rule ≡ Block → k ≡ t.Newline → Leaves d)
-block Block zero t.Newline = inl (refl, refl, refl)
-block Block (suc d) t.Newline = inr (λ _ _ e. absurd cc)
-block Block d _ = inr (λ _ e _. absurd cc)
-block _ d k = inr (λ e _ _. absurd cc)
-
--- behind the Newline of such a block nothing is taken
-nothing_more : (n : ℕ) (K : Stack) (u rest : Lexemes) → Good Leaves K → run n (N Indented zero ∷ K) (u ++ rest) ≡ Refused rest
-    → Arrives (N Indented zero ∷ K) u
-nothing_more zero K u rest good e = absurd cc
-nothing_more (suc n) K [] rest good e = arrived (N Indented zero ∷ K) (inr (K, refl, good))
-nothing_more (suc n) K (x ∷ u) rest good e = too_soon x u rest e
-
-behind_newline : (n : ℕ) (K : Stack) (x : Lexeme) (u rest : Lexemes) → Good Leaves K
-    → run n (T t.Newline ∷ N Indented zero ∷ K) (x ∷ (u ++ rest)) ≡ Refused rest → Arrives (T t.Newline ∷ N Indented zero ∷ K) (x ∷ u)
-behind_newline zero K x u rest good e = absurd cc
-behind_newline (suc n) K x u rest good e =
-    go_if (same x.kind t.Newline) (run n (N Indented zero ∷ K) (u ++ rest)) x u rest
-    (λ is h. taken t.Newline (N Indented zero ∷ K) x u (one_kind x.kind t.Newline is) (nothing_more n K u rest good h)) e
-
-arrives_row : (n : ℕ) (rule : Rule) (d : ℕ) (k : Terminal) (s K : Stack) (x : Lexeme) (u rest : Lexemes) → row rule d k ≡ Some s
-    → Fits Leaves rule d (kind (plain K)) → Good Leaves K → run n (s ++ K) (x ∷ (u ++ rest)) ≡ Refused rest
-    → (Good Leaves (s ++ K) → Arrives (s ++ K) (x ∷ u))
-    → ((rule ≡ Block) × (k ≡ t.Newline) × (d ≡ zero)) ⊎ (rule ≡ Block → k ≡ t.Newline → Leaves d) → Arrives (s ++ K) (x ∷ u)
-arrives_row n rule d k s K x u rest is fits good h go (inl b) =
-    let symbols : Some s ≡ Some (T t.Newline ∷ N Indented zero ∷ []) =
-    sym is ∙ (ap (λ r. row r d k) b.0 ∙ (ap (row Block d) b.1 ∙ ap (λ (e : ℕ). row Block e t.Newline) b.2)) in
-    let same_symbols : T t.Newline ∷ N Indented zero ∷ [] ≡ s = cc in
-    subst (λ z. Arrives (z ++ K) (x ∷ u)) same_symbols
-    (behind_newline n K x u rest good (subst (λ z. run n (z ++ K) (x ∷ (u ++ rest)) ≡ Refused rest) (sym same_symbols) h))
-arrives_row n rule d k s K x u rest is fits good h go (inr l) =
-    go (subst (λ o. GoodRow Leaves o K) is (keeps Leaves rule d k K fits good l))
-
-arrives : (n : ℕ) (stack : Stack) (used rest : Lexemes) → Good Leaves stack → run n stack (used ++ rest) ≡ Refused rest → Arrives stack used
-arrives n stack [] rest good e = arrived stack (inl good)
-arrives zero stack (x ∷ u) rest good e = absurd cc
-arrives (suc n) [] (x ∷ u) rest good e =
-    go_if (same x.kind t.End) Accepted x u rest (λ is (bad : Accepted ≡ Refused rest). absurd cc) e
-arrives (suc n) (T k ∷ K) (x ∷ u) rest good e =
-    go_if (same x.kind k) (run n K (u ++ rest)) x u rest
-    (λ is h. taken k K x u (one_kind x.kind k is) (arrives n K u rest good.1 h)) e
-arrives (suc n) (N rule d ∷ K) (x ∷ u) rest good e =
-    go_row (row rule d x.kind) (λ s. run n (s ++ K) (x ∷ (u ++ rest))) x u rest
-    (λ s is h.
-    expanded rule d s K x u is
-    (arrives_row n rule d x.kind s K x u rest is good.0 good.1 h (λ fine. arrives n (s ++ K) (x ∷ u) rest fine h) (block rule d x.kind))) e
-
-abbrev pub GoesOn : Stack → Lexemes → Type 0
-GoesOn stack used = (more : Lexemes) × Accepts stack (used ++ more)
-
--- Nothing goes on from these with so many levels. With one more something does, and begins with an Indent.
-pub record Deepest (depth : ℕ) (used : Lexemes) : Type 0 where
-  pub none : (more : Lexemes) → Accepts (N Parts depth ∷ []) (used ++ more) → ⊥
-  pub one_more : GoesOn (N Parts (suc depth) ∷ []) used
-  pub indent : (more : Lexemes) → Accepts (N Parts (suc depth) ∷ []) (used ++ more) → kind more ≡ t.Indent
-
-no_way : (stack K : Stack) (ts us : Lexemes) → Leads stack ts (N Indented zero ∷ K) us → Accepts stack ts → ⊥
-no_way stack K ts us h accepts = let first = h.by 1 in not_both stack ts us accepts (first.0, first.1)
-
-next_indent : (stack K : Stack) (ts us : Lexemes) → Leads stack ts (N Indented 1 ∷ K) us → Accepts stack ts
-    → (b : Bool) → same (kind us) t.Indent ≡ b → kind us ≡ t.Indent
-next_indent stack K ts us h accepts true is = one_kind (kind us) t.Indent is
-next_indent stack K ts us h accepts false is =
-    let first = h.by 2 in
-    absurd (not_both stack ts us accepts (first.0, first.1 ∙ ap (λ (b : Bool). if b then Unfinished else Refused us) is))
-
-viable_by : (depth : ℕ) (used : Lexemes) (h : Arrives (N Parts depth ∷ []) used) → Due h.there → GoesOn (N Parts depth ∷ []) used ⊎ Deepest depth used
-viable_by depth used h (inl good) = inl (plain h.there, accepts_on (h.leads (plain h.there)) (completes h.there good))
-viable_by depth used h (inr (K, is, good)) =
-    let there : Stack = N Indented 1 ∷ map raised K in
-    let raised_is : map raised h.there ≡ there = ap (map raised) is in
-    let leads : (more : Lexemes) → Leads (N Parts (suc depth) ∷ []) (used ++ more) there more =
-    λ more. subst (λ z. Leads (N Parts (suc depth) ∷ []) (used ++ more) z more) raised_is (h.raised_leads more) in
-    inr (record {
-      none = λ more.
-          no_way (N Parts depth ∷ []) K (used ++ more) more (subst (λ z. Leads (N Parts depth ∷ []) (used ++ more) z more) is (h.leads more));
-      one_more = (plain there, accepts_on (leads (plain there)) (completes there ((λ e. absurd cc), raised_good K good)));
-      indent = λ more accepts.
-          next_indent (N Parts (suc depth) ∷ []) (map raised K) (used ++ more) more (leads more) accepts (same (kind more) t.Indent) refl;
-    })
-
-pub viable : (depth : ℕ) (used rest : Lexemes) → RefusedAt (N Parts depth ∷ []) (used ++ rest) rest → GoesOn (N Parts depth ∷ []) used ⊎ Deepest depth used
-viable depth used rest h =
-    let there = arrives h.0 (N Parts depth ∷ []) used rest (refl, tt) h.1 in viable_by depth used there there.due
+raised_good (N rule d ∷ K) good = (
+  raised_fits rule d (kind (plain (map raised K)))
+      (subst (λ z. Fits Leaves rule d (kind z)) (sym (raised_plain K)) good.0),
+  raised_good K good.1,
+)

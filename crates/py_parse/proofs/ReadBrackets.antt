@@ -1,12 +1,14 @@
 -- Arguments, subscripts and trailers are read as the grammar gives them.
-use Rattle.std.proofs.Common.{◌≡◌, ℕ, zero, suc, ◌<◌, ◌≤◌, false, ◌∷◌, ◌++◌, Option, Some, None, Ok, inl, inr, ◌⊎◌, refl, ◌∙◌, arith}
+use Rattle.std.proofs.Common.{◌≡◌, ℕ, zero, suc, ◌<◌, ◌≤◌, false, ◌∷◌, ◌++◌, Option, Some, None, Ok, inl, inr, ◌⊎◌}
+use Rattle.std.proofs.Common.{refl, ◌∙◌, arith}
 use Rattle.py_parse.specs.declared.terminal.Terminal.{Terminal}
 use Rattle.py_parse.specs.declared.terminal.Terminal.TheVariants as t
 use Rattle.py_parse.specs.declared.tree.Expr.{Expr}
 use Rattle.py_parse.specs.declared.tree.Arg.{Arg, roll-Arg}
 use Rattle.py_parse.specs.declared.tree.Sub.{Sub}
 use Rattle.py_parse.specs.declared.tree.Sub.TheVariants as sub
-use Rattle.py_parse.specs.Descent.{Inner, arg, arg_by, bound, bound_by, step, step_by, cut, cut_by, subscript, subscript_by, subscript_from}
+use Rattle.py_parse.specs.Descent.{Inner, arg, arg_by, bound, bound_by, step, step_by, cut, cut_by, subscript}
+use Rattle.py_parse.specs.Descent.{subscript_by, subscript_from}
 use Rattle.py_parse.specs.Grammar as g
 use Rattle.py_parse.specs.Grammar.{◌>>=◌}
 use Rattle.py_parse.specs.Lexemes.{Lexeme, Lexemes, same}
@@ -41,15 +43,19 @@ bracket_loose : (k : Terminal) → Ends t.CloseBracket k → 11 < loose k
 bracket_loose k (inl e) = rw e (omega arith)
 bracket_loose k (inr e) = rw e (omega arith)
 
-no_key : (p : Parser Expr) (first : Expr) (k : Terminal) (ts : Lexemes) → Ends t.CloseParen k → arg_by p first k ts ≡ Ok (roll-Arg (record { key = None; value = first }), ts)
+no_key : (p : Parser Expr) (first : Expr) (k : Terminal) (ts : Lexemes) → Ends t.CloseParen k
+    → arg_by p first k ts ≡ Ok (roll-Arg (record { key = None; value = first }), ts)
 no_key p first k ts (inl e) = rw e refl
 no_key p first k ts (inr e) = rw e refl
 
-pub arg_read : (p : Parser Expr) (R : g.Grammar Expr) → IsRead p R → (x : Arg) (used rest : Lexemes) → g.arg R x used → Ends t.CloseParen (kind rest) → arg p (used ++ rest) ≡ Ok (x, rest)
+pub arg_read : (p : Parser Expr) (R : g.Grammar Expr) → IsRead p R → (x : Arg) (used rest : Lexemes) → g.arg R x used
+    → Ends t.CloseParen (kind rest) → arg p (used ++ rest) ≡ Ok (x, rest)
 unfolding arg
 arg_read p R read x used rest (inl (y, a, b, parts, is_y, (x_is, b_is))) ends =
-    rw (only used a b parts b_is, x_is, read y a rest is_y (paren_loose (kind rest) ends)) (no_key p y (kind rest) rest ends)
-arg_read p R read x used rest (inr (key, a, b, parts, is_key, (at, c, d, b_parts, (text, tok), (y, e, f, d_parts, is_y, (x_is, f_is))))) ends =
+    rw (only used a b parts b_is, x_is, read y a rest is_y (paren_loose (kind rest) ends))
+    (no_key p y (kind rest) rest ends)
+arg_read p R read x used rest
+    (inr (key, a, b, parts, is_key, (at, c, d, b_parts, (text, tok), (y, e, f, d_parts, is_y, (x_is, f_is))))) ends =
     let assign : Lexeme = record { kind = t.Assign; loc = at; text = text } in
     let far : 11 < loose (kind (assign ∷ (e ++ rest))) = omega arith in
     rw (
@@ -61,9 +67,12 @@ arg_read p R read x used rest (inr (key, a, b, parts, is_key, (at, c, d, b_parts
       read y e rest is_y (paren_loose (kind rest) ends),
     ) refl
 
-arg_begins : (R : g.Grammar Expr) → Begins R → (x : Arg) (used rest : Lexemes) → g.arg R x used → 1 ≤ begin (kind (used ++ rest))
-arg_begins R begins x used rest (inl (y, a, b, parts, is_y, more)) = rw (split used a b rest parts) (begins y a (b ++ rest) is_y)
-arg_begins R begins x used rest (inr (y, a, b, parts, is_y, more)) = rw (split used a b rest parts) (begins y a (b ++ rest) is_y)
+arg_begins : (R : g.Grammar Expr) → Begins R → (x : Arg) (used rest : Lexemes) → g.arg R x used
+    → 1 ≤ begin (kind (used ++ rest))
+arg_begins R begins x used rest (inl (y, a, b, parts, is_y, more)) =
+    rw (split used a b rest parts) (begins y a (b ++ rest) is_y)
+arg_begins R begins x used rest (inr (y, a, b, parts, is_y, more)) =
+    rw (split used a b rest parts) (begins y a (b ++ rest) is_y)
 
 pub arg_item : (p : Parser Expr) (R : g.Grammar Expr) → IsRead p R → Begins R → Item t.CloseParen (arg p) (g.arg R)
 arg_item p R read begins = record {
@@ -76,7 +85,8 @@ expr_close : (close : Terminal) → 11 < loose close → (k : Terminal) → Ends
 expr_close close far k (inl e) = rw e (omega arith)
 expr_close close far k (inr e) = rw e far
 
-pub expr_item : (close : Terminal) (p : Parser Expr) (R : g.Grammar Expr) → begin close ≡ 0 → 11 < loose close → same close t.Comma ≡ false → IsRead p R → Begins R → Item close p R
+pub expr_item : (close : Terminal) (p : Parser Expr) (R : g.Grammar Expr) → begin close ≡ 0 → 11 < loose close
+    → same close t.Comma ≡ false → IsRead p R → Begins R → Item close p R
 expr_item close p R ends far apart read begins = record {
   read = λ x used rest is k. read x used rest is (expr_close close far (kind rest) k);
   begins = λ x used rest is. begins_not (kind (used ++ rest)) close (begins x used rest is) ends;
@@ -97,29 +107,35 @@ unbounded p k ts (inl e) = rw e refl
 unbounded p k ts (inr (inl e)) = rw e refl
 unbounded p k ts (inr (inr e)) = rw e refl
 
-bounded : (p : Parser Expr) (k : Terminal) (ts : Lexemes) → 1 ≤ begin k → bound_by p k ts ≡ and_then (p ts) (λ x. pure (Some x))
+bounded : (p : Parser Expr) (k : Terminal) (ts : Lexemes) → 1 ≤ begin k
+    → bound_by p k ts ≡ and_then (p ts) (λ x. pure (Some x))
 bounded p t.Colon ts starts = absurd (omega arith)
 bounded p t.Comma ts starts = absurd (omega arith)
 bounded p t.CloseBracket ts starts = absurd (omega arith)
 bounded p _ ts starts = refl
 
-bound_read : (p : Parser Expr) (R : g.Grammar Expr) → IsRead p R → Begins R → (x : Option Expr) (used rest : Lexemes) → g.maybe R x used → Stops (kind rest) → bound p (used ++ rest) ≡ Ok (x, rest)
+bound_read : (p : Parser Expr) (R : g.Grammar Expr) → IsRead p R → Begins R → (x : Option Expr) (used rest : Lexemes)
+    → g.maybe R x used → Stops (kind rest) → bound p (used ++ rest) ≡ Ok (x, rest)
 unfolding bound
 bound_read p R read begins None used rest empty stops = rw empty (unbounded p (kind rest) rest stops)
 bound_read p R read begins (Some x) used rest is stops =
-    bounded p (kind (used ++ rest)) (used ++ rest) (begins x used rest is) ∙ rw (read x used rest is (stops_loose (kind rest) stops)) refl
+    bounded p (kind (used ++ rest)) (used ++ rest) (begins x used rest is)
+    ∙ rw (read x used rest is (stops_loose (kind rest) stops)) refl
 
 step_none : (p : Parser Expr) (k : Terminal) (ts : Lexemes) → Ends t.CloseBracket k → step_by p k ts ≡ Ok (None, ts)
 step_none p k ts (inl e) = rw e refl
 step_none p k ts (inr e) = rw e refl
 
-step_read : (p : Parser Expr) (R : g.Grammar Expr) → IsRead p R → Begins R → (x : Option Expr) (used rest : Lexemes) → g.step R x used → Ends t.CloseBracket (kind rest) → step p (used ++ rest) ≡ Ok (x, rest)
+step_read : (p : Parser Expr) (R : g.Grammar Expr) → IsRead p R → Begins R → (x : Option Expr) (used rest : Lexemes)
+    → g.step R x used → Ends t.CloseBracket (kind rest) → step p (used ++ rest) ≡ Ok (x, rest)
 unfolding step
 step_read p R read begins x used rest (inl (x_is, empty)) ends = rw (empty, x_is) (step_none p (kind rest) rest ends)
 step_read p R read begins x used rest (inr (at, a, b, parts, (text, tok), is)) ends =
-    rw (shift used a b rest (record { kind = t.Colon; loc = at; text = text }) parts tok) (bound_read p R read begins x b rest is (inr ends))
+    rw (shift used a b rest (record { kind = t.Colon; loc = at; text = text }) parts tok)
+    (bound_read p R read begins x b rest is (inr ends))
 
-step_next : (R : g.Grammar Expr) (x : Option Expr) (used rest : Lexemes) → g.step R x used → Ends t.CloseBracket (kind rest) → Stops (kind (used ++ rest))
+step_next : (R : g.Grammar Expr) (x : Option Expr) (used rest : Lexemes) → g.step R x used
+    → Ends t.CloseBracket (kind rest) → Stops (kind (used ++ rest))
 step_next R x used rest (inl (x_is, empty)) ends = rw empty (inr ends)
 step_next R x used rest (inr (at, a, b, parts, (text, tok), is)) ends =
     rw (shift used a b rest (record { kind = t.Colon; loc = at; text = text }) parts tok) (inl refl)
@@ -131,9 +147,12 @@ CutOf R start = do
   by ← g.step R
   g.gives (sub.Cut start stop by)
 
-cut_read : (p : Parser Expr) (R : g.Grammar Expr) → IsRead p R → Begins R → (start : Option Expr) (x : Sub) (used rest : Lexemes) → CutOf R start x used → Ends t.CloseBracket (kind rest) → cut p start (used ++ rest) ≡ Ok (x, rest)
+cut_read : (p : Parser Expr) (R : g.Grammar Expr) → IsRead p R → Begins R
+    → (start : Option Expr) (x : Sub) (used rest : Lexemes) → CutOf R start x used → Ends t.CloseBracket (kind rest)
+    → cut p start (used ++ rest) ≡ Ok (x, rest)
 unfolding cut
-cut_read p R read begins start x used rest (at, a, b, parts, (text, tok), (stop, c, d, b_parts, is_stop, (by, e, f, d_parts, is_by, (x_is, f_is)))) ends =
+cut_read p R read begins start x used rest
+    (at, a, b, parts, (text, tok), (stop, c, d, b_parts, is_stop, (by, e, f, d_parts, is_by, (x_is, f_is)))) ends =
     rw (
       shift used a b rest (record { kind = t.Colon; loc = at; text = text }) parts tok,
       expect_takes t.Colon at text (b ++ rest),
@@ -144,7 +163,8 @@ cut_read p R read begins start x used rest (at, a, b, parts, (text, tok), (stop,
       step_read p R read begins by e rest is_by ends,
     ) refl
 
-cut_kind : (R : g.Grammar Expr) (start : Option Expr) (x : Sub) (used rest : Lexemes) → CutOf R start x used → kind (used ++ rest) ≡ t.Colon
+cut_kind : (R : g.Grammar Expr) (start : Option Expr) (x : Sub) (used rest : Lexemes) → CutOf R start x used
+    → kind (used ++ rest) ≡ t.Colon
 cut_kind R start x used rest (at, a, b, parts, (text, tok), more) =
     rw (shift used a b rest (record { kind = t.Colon; loc = at; text = text }) parts tok) refl
 
@@ -152,11 +172,13 @@ at_first : (p : Parser Expr) (k : Terminal) (ts : Lexemes) → 1 ≤ begin k →
 at_first p t.Colon ts starts = absurd (omega arith)
 at_first p _ ts starts = refl
 
-no_cut : (p : Parser Expr) (first : Expr) (k : Terminal) (ts : Lexemes) → Ends t.CloseBracket k → cut_by p first k ts ≡ Ok (sub.At first, ts)
+no_cut : (p : Parser Expr) (first : Expr) (k : Terminal) (ts : Lexemes) → Ends t.CloseBracket k
+    → cut_by p first k ts ≡ Ok (sub.At first, ts)
 no_cut p first k ts (inl e) = rw e refl
 no_cut p first k ts (inr e) = rw e refl
 
-pub subscript_read : (p : Parser Expr) (R : g.Grammar Expr) → IsRead p R → Begins R → (x : Sub) (used rest : Lexemes) → g.subscript R x used → Ends t.CloseBracket (kind rest) → subscript p (used ++ rest) ≡ Ok (x, rest)
+pub subscript_read : (p : Parser Expr) (R : g.Grammar Expr) → IsRead p R → Begins R → (x : Sub) (used rest : Lexemes)
+    → g.subscript R x used → Ends t.CloseBracket (kind rest) → subscript p (used ++ rest) ≡ Ok (x, rest)
 unfolding subscript subscript_from
 subscript_read p R read begins x used rest (inl (y, a, b, parts, is_y, (x_is, b_is))) ends =
     rw (only used a b parts b_is, x_is)
@@ -171,15 +193,20 @@ subscript_read p R read begins x used rest (inr (Some y, a, b, parts, is_y, is))
     (at_first p (kind (a ++ (b ++ rest))) (a ++ (b ++ rest)) (begins y a (b ++ rest) is_y)
     ∙ rw (read y a (b ++ rest) is_y far, colon) (cut_read p R read begins (Some y) x b rest is ends))
 
-subscript_begins : (R : g.Grammar Expr) → Begins R → (x : Sub) (used rest : Lexemes) → g.subscript R x used → same (kind (used ++ rest)) t.CloseBracket ≡ false
+subscript_begins : (R : g.Grammar Expr) → Begins R → (x : Sub) (used rest : Lexemes) → g.subscript R x used
+    → same (kind (used ++ rest)) t.CloseBracket ≡ false
 subscript_begins R begins x used rest (inl (y, a, b, parts, is_y, more)) =
-    rw (split used a b rest parts) (begins_not (kind (a ++ (b ++ rest))) t.CloseBracket (begins y a (b ++ rest) is_y) refl)
+    rw (split used a b rest parts)
+    (begins_not (kind (a ++ (b ++ rest))) t.CloseBracket (begins y a (b ++ rest) is_y) refl)
 subscript_begins R begins x used rest (inr (None, a, b, parts, empty, is)) =
-    rw (split used a b rest parts, empty, cut_kind R None x b rest is) (not_same t.Colon t.CloseBracket (λ e. absurd cc))
+    rw (split used a b rest parts, empty, cut_kind R None x b rest is)
+    (not_same t.Colon t.CloseBracket (λ e. absurd cc))
 subscript_begins R begins x used rest (inr (Some y, a, b, parts, is_y, is)) =
-    rw (split used a b rest parts) (begins_not (kind (a ++ (b ++ rest))) t.CloseBracket (begins y a (b ++ rest) is_y) refl)
+    rw (split used a b rest parts)
+    (begins_not (kind (a ++ (b ++ rest))) t.CloseBracket (begins y a (b ++ rest) is_y) refl)
 
-pub subscript_item : (p : Parser Expr) (R : g.Grammar Expr) → IsRead p R → Begins R → Item t.CloseBracket (subscript p) (g.subscript R)
+pub subscript_item : (p : Parser Expr) (R : g.Grammar Expr) → IsRead p R → Begins R
+    → Item t.CloseBracket (subscript p) (g.subscript R)
 subscript_item p R read begins = record {
   read = subscript_read p R read begins;
   begins = subscript_begins R begins;

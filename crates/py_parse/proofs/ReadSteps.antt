@@ -1,6 +1,7 @@
--- Reading what the grammar gives: the steps of such a proof, how tightly a terminal goes on with what stands before it, and what an
--- expression may begin with.
-use Rattle.std.proofs.Common.{◌≡◌, ◌≢◌, ℕ, ◌+◌, ◌<◌, ◌≤◌, ◌==◌, Bool, true, false, eqb, if◌then◌else◌, [], ◌∷◌, ◌++◌, append_assoc, append-nil, pos, Option, Some, None, Ok, refl, ap, sym, ◌∙◌, arith}
+-- Reading what the grammar gives: the steps of such a proof, how tightly a terminal goes on with what stands before it,
+-- and what an expression may begin with.
+use Rattle.std.proofs.Common.{◌≡◌, ◌≢◌, ℕ, ◌+◌, ◌<◌, ◌≤◌, ◌==◌, Bool, true, false, eqb, if◌then◌else◌, [], ◌∷◌, ◌++◌}
+use Rattle.std.proofs.Common.{append_assoc, append-nil, pos, Option, Some, None, Ok, refl, ap, sym, ◌∙◌, arith}
 use Rattle.std.proofs.lemmas.Bool.Decides.{nat_tests}
 use denote.Enum.Bare.{same_true, true_same, false_same}
 use Rattle.krn_base.specs.declared.place.Loc.{Loc}
@@ -15,7 +16,8 @@ use Rattle.py_parse.specs.Trees.{operator_at, comparison, sign, value_of}
 
 -- ---- steps
 
-pub seq : {A B : Type 0} (o : Outcome A) (f : A → Parser B) (x : A) (us : Lexemes) (r : Outcome B) → o ≡ Ok (x, us) → f x us ≡ r → and_then o f ≡ r
+pub seq : {A B : Type 0} (o : Outcome A) (f : A → Parser B) (x : A) (us : Lexemes) (r : Outcome B) → o ≡ Ok (x, us)
+    → f x us ≡ r → and_then o f ≡ r
 seq o f x us r first more = rw first more
 
 pub split : (ts a b rest : Lexemes) → ts ≡ a ++ b → ts ++ rest ≡ a ++ (b ++ rest)
@@ -26,8 +28,11 @@ pub shift : (ts a b rest : Lexemes) (x : Lexeme) → ts ≡ a ++ b → a ≡ x �
 shift ts a b rest x parts tok = split ts a b rest parts ∙ ap (λ (us : Lexemes). us ++ (b ++ rest)) tok
 
 -- the same where nothing else of the rule stands behind it
-pub closed : (k : Terminal) (at : Loc) (text : Bytes) (used b rest a : Lexemes) → used ≡ a ++ b → a ≡ record { kind = k; loc = at; text = text } ∷ [] → b ≡ [] → used ++ rest ≡ record { kind = k; loc = at; text = text } ∷ rest
-closed k at text used b rest a parts tok empty = rw (shift used a b rest (record { kind = k; loc = at; text = text }) parts tok, empty) refl
+pub closed : (k : Terminal) (at : Loc) (text : Bytes) (used b rest a : Lexemes) → used ≡ a ++ b
+    → a ≡ record { kind = k; loc = at; text = text } ∷ [] → b ≡ []
+    → used ++ rest ≡ record { kind = k; loc = at; text = text } ∷ rest
+closed k at text used b rest a parts tok empty =
+    rw (shift used a b rest (record { kind = k; loc = at; text = text }) parts tok, empty) refl
 
 pub only : (ts a b : Lexemes) → ts ≡ a ++ b → b ≡ [] → ts ≡ a
 only ts a b parts empty = parts ∙ (ap (λ (us : Lexemes). a ++ us) empty ∙ append-nil a)
@@ -46,11 +51,13 @@ pub same_is : (k l : Terminal) → same k l ≡ true → k ≡ l
 unfolding same
 same_is k l e = same_true the_type tt k l e
 
-pub expect_takes : (k : Terminal) (at : Loc) (text : Bytes) (rest : Lexemes) → expect k (record { kind = k; loc = at; text = text } ∷ rest) ≡ Ok (at, rest)
+pub expect_takes : (k : Terminal) (at : Loc) (text : Bytes) (rest : Lexemes)
+    → expect k (record { kind = k; loc = at; text = text } ∷ rest) ≡ Ok (at, rest)
 unfolding expect
 expect_takes k at text rest = rw (same_self k) refl
 
-pub comma_takes : (at : Loc) (text : Bytes) (rest : Lexemes) → comma (record { kind = t.Comma; loc = at; text = text } ∷ rest) ≡ Ok (true, rest)
+pub comma_takes : (at : Loc) (text : Bytes) (rest : Lexemes)
+    → comma (record { kind = t.Comma; loc = at; text = text } ∷ rest) ≡ Ok (true, rest)
 unfolding comma
 comma_takes at text rest = rw (same_self t.Comma) refl
 
@@ -58,15 +65,18 @@ pub no_comma : (ts : Lexemes) → same (kind ts) t.Comma ≡ false → comma ts 
 unfolding comma
 no_comma ts other = rw other refl
 
-pub name_takes : (at : Loc) (text : Bytes) (rest : Lexemes) → name (record { kind = t.Name; loc = at; text = text } ∷ rest) ≡ Ok (record { text = text; loc = at }, rest)
+pub name_takes : (at : Loc) (text : Bytes) (rest : Lexemes)
+    → name (record { kind = t.Name; loc = at; text = text } ∷ rest) ≡ Ok (record { text = text; loc = at }, rest)
 unfolding name
 name_takes at text rest = rw (same_self t.Name) refl
 
-pub number_takes : (at : Loc) (text : Bytes) (rest : Lexemes) → number (record { kind = t.Number; loc = at; text = text } ∷ rest) ≡ Ok (pos (value_of text), rest)
+pub number_takes : (at : Loc) (text : Bytes) (rest : Lexemes)
+    → number (record { kind = t.Number; loc = at; text = text } ∷ rest) ≡ Ok (pos (value_of text), rest)
 unfolding number
 number_takes at text rest = rw (same_self t.Number) refl
 
--- ---- how tightly a terminal goes on with what stands before it: what follows an expression is looser than its operators
+-- ---- how tightly a terminal goes on with what stands before it: what follows an expression is looser than its
+-- operators
 
 abbrev pub loose : Terminal → ℕ
 loose t.OpenParen = 1

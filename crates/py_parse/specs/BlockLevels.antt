@@ -1,4 +1,4 @@
--- What stands one level further in, as blocks have it.
+-- What stands one level further in, as blocks have it. Only contracts of the crate's own functions cite this.
 use Rattle.std.specs.Prelude.{◌≡◌, ℕ, zero, suc, ◌+◌, Option, Some, None, Result, Ok, Err}
 use Rattle.py_parse.specs.declared.failure.Failure.{Failure}
 use Rattle.py_parse.specs.declared.failure.Failure.TheVariants as failure

@@ -1,4 +1,5 @@
--- Statements and modules, read by descent.
+-- Statements and modules, read by descent, one definition for each of the crate's own functions. The clauses of `parse`
+-- cite the grammar and the stack.
 use Rattle.std.specs.Prelude.{ℕ, zero, suc, ◌-◌, List, [], ◌∷◌, ◌++◌, length, Option, Some, None, Ok}
 use Rattle.krn_base.specs.declared.place.Loc.{Loc}
 use Rattle.krn_base.specs.declared.operation.BinOp.{BinOp}
@@ -12,7 +13,8 @@ use Rattle.py_parse.specs.declared.tree.Expr.TheVariants as e
 use Rattle.py_parse.specs.declared.tree.Stmt.{Stmt}
 use Rattle.py_parse.specs.declared.tree.Stmt.TheVariants as s
 use Rattle.py_parse.specs.Trees.{augmented, trailed}
-use Rattle.py_parse.specs.Parser.{Parser, ◌>>=◌, and_then, pure, refuse, peek, here, take_place, take_name, expect, name, deeper, more, until}
+use Rattle.py_parse.specs.Parser.{Parser, ◌>>=◌, and_then, pure, refuse, peek, here, take_place, take_name, expect}
+use Rattle.py_parse.specs.Parser.{name, deeper, more, until}
 use Rattle.py_parse.specs.Descent.{expr, inside, trailers}
 
 -- ---- lines
@@ -65,7 +67,8 @@ line depth = do
   _ ← expect t.Newline
   pure x
 
--- ---- blocks; `stmt` and the parser of what stands one level further in are parameters, since blocks and statements hold each other
+-- ---- blocks; `stmt` and the parser of what stands one level further in are parameters, since blocks and statements
+-- hold each other
 
 -- the statements of an indented block, of which there is one at least
 unfoldable pub statements : Parser Stmt → Parser (List Stmt)

@@ -1,4 +1,4 @@
--- What the descent answers on a source and its tokens. The clauses of `parse` follow from it.
+-- What the descent answers on a source and its tokens. The clauses of `parse` follow from it and don't cite it.
 use Rattle.std.specs.Prelude.{◌≡◌, Result, Ok, Err}
 use Rattle.krn_base.specs.declared.refusal.Rule.TheVariants as rule
 use Rattle.krn_base.specs.declared.refusal.Stop.{Stop}
@@ -17,5 +17,6 @@ IsDescended source tokens (Ok m) =
     (rest : Lexemes) × (parts levels (lexemes source tokens.tokens) ≡ Ok ((m.imports, m.functions), rest))
     × (m.notes ≡ notes_of source tokens.tokens tokens.notes)
 IsDescended source tokens (Err (stop.Refused r)) =
-    (r.rule ≡ rule.Syntax) × (rest : Lexemes) × (parts levels (lexemes source tokens.tokens) ≡ Err rest) × (r.loc ≡ place rest)
+    (r.rule ≡ rule.Syntax) × (rest : Lexemes) × (parts levels (lexemes source tokens.tokens) ≡ Err rest)
+    × (r.loc ≡ place rest)
 IsDescended source tokens (Err stop.Memory) = Unit {0}

@@ -1,7 +1,9 @@
--- Expressions, read by descent.
+-- Expressions, read by descent, one definition for each of the crate's own functions. The clauses of `parse` cite the
+-- grammar and the stack.
 --
--- A rule has the parser of expressions one level further in, for what stands inside brackets, and none where no bracket may open.
--- A row of `not` and signs counts too: the rules that may begin with one have the number of levels that may still open in the row.
+-- A rule has the parser of expressions one level further in, for what stands inside brackets, and none where no bracket
+-- may open. A row of `not` and signs counts too: the rules that may begin with one have the number of levels that may
+-- still open in the row.
 use Rattle.std.specs.Prelude.{ℕ, zero, suc, true, false, if◌then◌else◌, List, [], ◌∷◌, ◌++◌, length, Option, Some, None}
 use Rattle.krn_base.specs.declared.place.Loc.{Loc}
 use Rattle.krn_base.specs.declared.operation.BinOp.{BinOp}
@@ -16,7 +18,8 @@ use Rattle.py_parse.specs.declared.tree.Sub.{Sub}
 use Rattle.py_parse.specs.declared.tree.Sub.TheVariants as sub
 use Rattle.py_parse.specs.Lexemes.{same}
 use Rattle.py_parse.specs.Trees.{operator_at, levels_of_operators, comparison, sign, chained, joined, trailed}
-use Rattle.py_parse.specs.Parser.{Parser, ◌>>=◌, pure, refuse, peek, take_place, take_name, take_value, here, expect, name, number, deeper, some, more}
+use Rattle.py_parse.specs.Parser.{Parser, ◌>>=◌, pure, refuse, peek, take_place, take_name, take_value, here, expect}
+use Rattle.py_parse.specs.Parser.{name, number, deeper, some, more}
 
 abbrev pub Inner : Type 0
 Inner = Option (Parser Expr)
@@ -111,7 +114,8 @@ attribute = do
   pure (trailer.Attr attr)
 
 -- the trailer that begins with this token, and those behind it by `again`; none where none begins
-abbrev pub trailers_by : Inner → (List Trailer → Parser (List Trailer)) → List Trailer → Terminal → Parser (List Trailer)
+abbrev pub trailers_by : Inner → (List Trailer → Parser (List Trailer)) → List Trailer → Terminal
+    → Parser (List Trailer)
 trailers_by inner again found t.OpenParen = deeper inner (λ expr. do x ← call expr; again (found ++ x ∷ []))
 trailers_by inner again found t.OpenBracket = deeper inner (λ expr. do x ← pick expr; again (found ++ x ∷ []))
 trailers_by inner again found t.Dot = do x ← attribute; again (found ++ x ∷ [])
@@ -160,7 +164,8 @@ atom inner = do
   kind ← peek
   atom_by inner loc kind
 
--- An operand and its trailers. `front` is for the parentheses that the operand may begin with, `inner` for the trailers' brackets.
+-- An operand and its trailers. `front` is for the parentheses that the operand may begin with, `inner` for the
+-- trailers' brackets.
 unfoldable pub primary : Inner → Inner → Parser Expr
 primary front inner = do
   first ← atom front
@@ -195,7 +200,8 @@ unary inner (suc row) = do kind ← peek; signed (Some (unary inner row)) (power
 
 -- ---- operators; `whole` is the number of levels that may open in a row of its own, which a later operand begins
 
-abbrev pub links_by : (List (BinOp × Loc × Expr) → Parser (List (BinOp × Loc × Expr))) → Parser Expr → List (BinOp × Loc × Expr) → Option BinOp → Parser (List (BinOp × Loc × Expr))
+abbrev pub links_by : (List (BinOp × Loc × Expr) → Parser (List (BinOp × Loc × Expr))) → Parser Expr
+    → List (BinOp × Loc × Expr) → Option BinOp → Parser (List (BinOp × Loc × Expr))
 links_by again operand found (Some op) = do
   loc ← take_place
   x ← operand
@@ -243,9 +249,12 @@ inverted_by again operand _ = operand
 
 unfoldable pub inverted : Inner → ℕ → ℕ → Parser Expr
 inverted inner whole zero = do kind ← peek; inverted_by None (compared inner whole zero) kind
-inverted inner whole (suc row) = do kind ← peek; inverted_by (Some (inverted inner whole row)) (compared inner whole (suc row)) kind
+inverted inner whole (suc row) = do
+  kind ← peek
+  inverted_by (Some (inverted inner whole row)) (compared inner whole (suc row)) kind
 
-abbrev pub joined_by : (List (Loc × Expr) → Parser (List (Loc × Expr))) → Parser Expr → List (Loc × Expr) → Parser (List (Loc × Expr))
+abbrev pub joined_by : (List (Loc × Expr) → Parser (List (Loc × Expr))) → Parser Expr → List (Loc × Expr)
+    → Parser (List (Loc × Expr))
 joined_by again operand found = do
   loc ← take_place
   x ← operand

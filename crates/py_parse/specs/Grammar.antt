@@ -1,8 +1,10 @@
 -- The grammar: which lexemes a tree stands for. One line for each alternative of a rule.
 --
--- A rule has the number of levels that may still open. Brackets, Indents, and `not` and signs in a row each open one; so does each
--- `elif`, up to the end of its `if`. The rules that may begin with a row have the number of levels that may still open in it.
-use Rattle.std.specs.Prelude.{◌≡◌, ℕ, ℤ, pos, zero, suc, ◌⊎◌, true, false, List, [], ◌∷◌, ◌++◌, length, Option, Some, None}
+-- A rule has the number of levels that may still open. Brackets, Indents, and `not` and signs in a row each open one;
+-- so does each `elif`, up to the end of its `if`. The rules that may begin with a row have the number of levels that
+-- may still open in it.
+use Rattle.std.specs.Prelude.{◌≡◌, ℕ, ℤ, pos, zero, suc, ◌⊎◌, true, false, List, [], ◌∷◌, ◌++◌, length, Option, Some}
+use Rattle.std.specs.Prelude.{None}
 use Rattle.krn_base.specs.declared.place.Loc.{Loc}
 use Rattle.krn_base.specs.declared.operation.BinOp.{BinOp}
 use Rattle.py_lex.specs.Bytes.{Bytes}
@@ -21,7 +23,8 @@ use Rattle.py_parse.specs.declared.tree.Sub.TheVariants as sub
 use Rattle.py_parse.specs.declared.tree.Stmt.{Stmt}
 use Rattle.py_parse.specs.declared.tree.Stmt.TheVariants as s
 use Rattle.py_parse.specs.Lexemes.{Lexemes}
-use Rattle.py_parse.specs.Trees.{value_of, operator_at, levels_of_operators, comparison, augmented, sign, chained, joined, trailed}
+use Rattle.py_parse.specs.Trees.{value_of, operator_at, levels_of_operators, comparison, augmented, sign, chained}
+use Rattle.py_parse.specs.Trees.{joined, trailed}
 
 abbrev pub Grammar : Type 0 → Type 1
 Grammar A = A → Lexemes → Type 0
@@ -54,7 +57,8 @@ abbrev pub name : Grammar Name
 name = λ x ts. ts ≡ record { kind = t.Name; loc = x.loc; text = x.text } ∷ []
 
 abbrev pub number : Grammar (ℤ × Loc)
-number = λ x ts. (text : Bytes) × (x.0 ≡ pos (value_of text)) × (ts ≡ record { kind = t.Number; loc = x.1; text = text } ∷ [])
+number = λ x ts. (text : Bytes) × (x.0 ≡ pos (value_of text))
+    × (ts ≡ record { kind = t.Number; loc = x.1; text = text } ∷ [])
 
 -- an operator of a table, and its place
 abbrev pub operator : {A : Type 0} → (Terminal → Option A) → Grammar (A × Loc)
@@ -74,7 +78,8 @@ maybe item (Some x) ts = item x ts
 abbrev pub rest : {A : Type 0} → Grammar A → Grammar (List A)
 rest item [] ts = (ts ≡ []) ⊎ ((at : Loc) × token t.Comma at ts)
 rest item (x ∷ xs) ts =
-    (at : Loc) × (a : Lexemes) × (b : Lexemes) × (c : Lexemes) × (ts ≡ a ++ (b ++ c)) × token t.Comma at a × item x b × rest item xs c
+    (at : Loc) × (a : Lexemes) × (b : Lexemes) × (c : Lexemes) × (ts ≡ a ++ (b ++ c)) × token t.Comma at a × item x b
+    × rest item xs c
 
 -- item { "," item } [ "," ]
 abbrev pub some : {A : Type 0} → Grammar A → Grammar (List A)
@@ -106,8 +111,16 @@ subscript expr =
 -- "(" [ arg { "," arg } [ "," ] ] ")" | "[" subscript { "," subscript } [ "," ] "]" | "." NAME
 abbrev pub trailer_at : ℕ → Grammar Expr → Grammar Trailer
 trailer_at depth expr =
-    opened depth (do at ← token t.OpenParen; args ← listed (arg expr); _ ← token t.CloseParen; gives (trailer.Call at args))
-    ∣ opened depth (do at ← token t.OpenBracket; subs ← some (subscript expr); _ ← token t.CloseBracket; gives (trailer.Pick at subs))
+    opened depth (do
+      at ← token t.OpenParen
+      args ← listed (arg expr)
+      _ ← token t.CloseParen
+      gives (trailer.Call at args))
+    ∣ opened depth (do
+      at ← token t.OpenBracket
+      subs ← some (subscript expr)
+      _ ← token t.CloseBracket
+      gives (trailer.Pick at subs))
     ∣ (do _ ← token t.Dot; x ← name; gives (trailer.Attr x))
 
 -- NAME | NUMBER | "True" | "False" | "(" expr ")" | "(" expr "," [ expr { "," expr } [ "," ] ] ")"
@@ -118,7 +131,13 @@ atom row expr =
     ∣ (do at ← token t.True; gives (e.Truth true at))
     ∣ (do at ← token t.False; gives (e.Truth false at))
     ∣ opened row (do _ ← token t.OpenParen; x ← expr; _ ← token t.CloseParen; gives x)
-    ∣ opened row (do at ← token t.OpenParen; x ← expr; _ ← token t.Comma; xs ← listed expr; _ ← token t.CloseParen; gives (e.Tuple at (x ∷ xs)))
+    ∣ opened row (do
+      at ← token t.OpenParen
+      x ← expr
+      _ ← token t.Comma
+      xs ← listed expr
+      _ ← token t.CloseParen
+      gives (e.Tuple at (x ∷ xs)))
 
 -- atom { trailer }
 abbrev pub primary : ℕ → ℕ → Grammar Expr → Grammar Expr
@@ -147,8 +166,8 @@ link table operand = do
   x ← operand
   gives (op.0, op.1, x)
 
--- Operands joined by operators of a level, each made of the level below; at the bottom, an operand. The operands behind an
--- operator begin a row of their own.
+-- Operands joined by operators of a level, each made of the level below; at the bottom, an operand. The operands behind
+-- an operator begin a row of their own.
 abbrev pub chain : ℕ → ℕ → ℕ → Grammar Expr → Grammar Expr
 chain depth zero row expr = unary depth row expr
 chain depth (suc level) row expr = do

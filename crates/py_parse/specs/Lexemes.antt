@@ -26,20 +26,28 @@ same = sameb the_type
 -- the words of the grammar; the other keywords stand in no rule
 abbrev pub words : List (Bytes × Terminal)
 words =
-    (codes "import", t.Import) ∷ (codes "as", t.As) ∷ (codes "def", t.Def) ∷ (codes "pass", t.Pass) ∷ (codes "return", t.Return)
+    (codes "import", t.Import) ∷ (codes "as", t.As) ∷ (codes "def", t.Def) ∷ (codes "pass", t.Pass) ∷
+    (codes "return", t.Return)
     ∷ (codes "if", t.If) ∷ (codes "elif", t.Elif) ∷ (codes "else", t.Else) ∷ (codes "for", t.For) ∷ (codes "in", t.In)
-    ∷ (codes "or", t.Or) ∷ (codes "and", t.And) ∷ (codes "not", t.Not) ∷ (codes "True", t.True) ∷ (codes "False", t.False) ∷ []
+    ∷ (codes "or", t.Or) ∷ (codes "and", t.And) ∷ (codes "not", t.Not) ∷ (codes "True", t.True) ∷
+    (codes "False", t.False) ∷ []
 
 abbrev pub marks : List (Bytes × Terminal)
 marks =
-    (codes "(", t.OpenParen) ∷ (codes ")", t.CloseParen) ∷ (codes "[", t.OpenBracket) ∷ (codes "]", t.CloseBracket) ∷ (codes ",", t.Comma)
+    (codes "(", t.OpenParen) ∷ (codes ")", t.CloseParen) ∷ (codes "[", t.OpenBracket) ∷ (codes "]", t.CloseBracket) ∷
+    (codes ",", t.Comma)
     ∷ (codes ":", t.Colon) ∷ (codes ".", t.Dot) ∷ (codes "=", t.Assign) ∷ (codes "+", t.Plus) ∷ (codes "-", t.Minus)
-    ∷ (codes "*", t.Star) ∷ (codes "//", t.DoubleSlash) ∷ (codes "%", t.Percent) ∷ (codes "**", t.Power) ∷ (codes "~", t.Tilde)
-    ∷ (codes "<<", t.ShiftLeft) ∷ (codes ">>", t.ShiftRight) ∷ (codes "&", t.Ampersand) ∷ (codes "^", t.Caret) ∷ (codes "|", t.Bar)
-    ∷ (codes "==", t.Equal) ∷ (codes "!=", t.NotEqual) ∷ (codes "<", t.Less) ∷ (codes "<=", t.LessEqual) ∷ (codes ">", t.Greater)
-    ∷ (codes ">=", t.GreaterEqual) ∷ (codes "+=", t.PlusAssign) ∷ (codes "-=", t.MinusAssign) ∷ (codes "*=", t.StarAssign)
+    ∷ (codes "*", t.Star) ∷ (codes "//", t.DoubleSlash) ∷ (codes "%", t.Percent) ∷ (codes "**", t.Power) ∷
+    (codes "~", t.Tilde)
+    ∷ (codes "<<", t.ShiftLeft) ∷ (codes ">>", t.ShiftRight) ∷ (codes "&", t.Ampersand) ∷ (codes "^", t.Caret) ∷
+    (codes "|", t.Bar)
+    ∷ (codes "==", t.Equal) ∷ (codes "!=", t.NotEqual) ∷ (codes "<", t.Less) ∷ (codes "<=", t.LessEqual) ∷
+    (codes ">", t.Greater)
+    ∷ (codes ">=", t.GreaterEqual) ∷ (codes "+=", t.PlusAssign) ∷ (codes "-=", t.MinusAssign) ∷
+    (codes "*=", t.StarAssign)
     ∷ (codes "//=", t.DoubleSlashAssign) ∷ (codes "%=", t.PercentAssign) ∷ (codes "<<=", t.ShiftLeftAssign)
-    ∷ (codes ">>=", t.ShiftRightAssign) ∷ (codes "&=", t.AmpersandAssign) ∷ (codes "|=", t.BarAssign) ∷ (codes "^=", t.CaretAssign) ∷ []
+    ∷ (codes ">>=", t.ShiftRightAssign) ∷ (codes "&=", t.AmpersandAssign) ∷ (codes "|=", t.BarAssign) ∷
+    (codes "^=", t.CaretAssign) ∷ []
 
 abbrev pub lookup : List (Bytes × Terminal) → Bytes → Terminal
 lookup [] text = t.Other
@@ -58,7 +66,8 @@ terminal kind.End text = t.End
 terminal kind.Note text = t.Other
 
 abbrev pub lexeme : Bytes → Token → Lexeme
-lexeme source token = record { kind = terminal token.kind (text_of source token); loc = token.loc; text = text_of source token }
+lexeme source token =
+    record { kind = terminal token.kind (text_of source token); loc = token.loc; text = text_of source token }
 
 abbrev pub lexemes : Bytes → List Token → Lexemes
 lexemes source tokens = map (lexeme source) tokens

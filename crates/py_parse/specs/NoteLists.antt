@@ -1,4 +1,4 @@
--- What the one pass over the notes and the tokens goes by.
+-- What the one pass over the notes and the tokens goes by. Only contracts of the crate's own functions cite this.
 use Rattle.std.specs.Prelude.{◌≤◌, if◌then◌else◌, List, [], ◌∷◌}
 use Rattle.std.specs.List.{AllByRecursion}
 use Rattle.py_lex.specs.declared.token.Token.{Token}

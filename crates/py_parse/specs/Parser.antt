@@ -1,5 +1,7 @@
--- Parsers of lists of lexemes, and the steps that every rule is made of.
-use Rattle.std.specs.Prelude.{◌≡◌, ℕ, ℤ, pos, zero, suc, Bool, true, false, if◌then◌else◌, List, [], ◌∷◌, ◌++◌, length, Option, Some, None, Result, Ok, Err}
+-- Parsers of lists of lexemes, and the steps that every rule is made of. Most of this mirrors the crate's own
+-- functions; the clauses of `parse` cite the grammar and the stack.
+use Rattle.std.specs.Prelude.{◌≡◌, ℕ, ℤ, pos, zero, suc, Bool, true, false, if◌then◌else◌, List, [], ◌∷◌, ◌++◌, length}
+use Rattle.std.specs.Prelude.{Option, Some, None, Result, Ok, Err}
 use Rattle.krn_base.specs.declared.place.Loc.{Loc}
 use Rattle.py_lex.specs.Bytes.{Bytes}
 use Rattle.py_parse.specs.declared.failure.Failure.{Failure}
@@ -91,8 +93,8 @@ behind_comma close again found = do
   kind ← peek
   if same kind close then pure found else again found
 
--- One item or more, with commas between them and maybe one behind, after those that were found; `close` ends the list. The
--- number bounds the turns, each of which takes a comma.
+-- One item or more, with commas between them and maybe one behind, after those that were found; `close` ends the list.
+-- The number bounds the turns, each of which takes a comma.
 unfoldable pub some_from : {A : Type 0} → Terminal → Parser A → ℕ → List A → Parser (List A)
 some_from close item zero found = refuse
 some_from close item (suc n) found = do

@@ -1,5 +1,5 @@
--- Where reading stops: a stack of symbols, which one lexeme of look-ahead expands row by row. The first lexeme for which the top
--- symbol has no row, or which is not the terminal on top, is refused.
+-- Where reading stops: a stack of symbols, which one lexeme of look-ahead expands row by row. The first lexeme for
+-- which the top symbol has no row, or which is not the terminal on top, is refused.
 --
 -- A symbol of a rule has the number of levels that may still open; at 0 a lexeme that opens one has no row.
 use Rattle.std.specs.Prelude.{◌≡◌, ℕ, zero, suc, if◌then◌else◌, List, [], ◌∷◌, ◌++◌, Option, Some, None}
@@ -17,7 +17,8 @@ pub data Item : Type 0 where
   Argument : Item
   Subscript : Item
 
--- Rules and rests of rules. Those that may begin with a row of `not` and signs have the number of levels that may open in it.
+-- Rules and rests of rules. Those that may begin with a row of `not` and signs have the number of levels that may open
+-- in it.
 pub data Rule : Type 0 where
   Expr : Rule
   Ors : Rule
@@ -122,8 +123,10 @@ row (Atom e) d t.OpenParen = deeper e (λ _. deeper d (λ c. Some (T t.OpenParen
 row (Atom e) d _ = None
 row Parenthesis d t.Comma = Some (T t.Comma ∷ N (More Element) d ∷ T t.CloseParen ∷ [])
 row Parenthesis d _ = Some (T t.CloseParen ∷ [])
-row Trailers d t.OpenParen = deeper d (λ c. Some (T t.OpenParen ∷ N (More Argument) c ∷ T t.CloseParen ∷ N Trailers d ∷ []))
-row Trailers d t.OpenBracket = deeper d (λ c. Some (T t.OpenBracket ∷ N (Items Subscript) c ∷ T t.CloseBracket ∷ N Trailers d ∷ []))
+row Trailers d t.OpenParen =
+    deeper d (λ c. Some (T t.OpenParen ∷ N (More Argument) c ∷ T t.CloseParen ∷ N Trailers d ∷ []))
+row Trailers d t.OpenBracket =
+    deeper d (λ c. Some (T t.OpenBracket ∷ N (Items Subscript) c ∷ T t.CloseBracket ∷ N Trailers d ∷ []))
 row Trailers d t.Dot = Some (T t.Dot ∷ T t.Name ∷ N Trailers d ∷ [])
 row Trailers d _ = Some []
 row Arg d k = Some (N Expr d ∷ N Keyed d ∷ [])
@@ -167,7 +170,8 @@ row Alias d t.As = Some (T t.As ∷ T t.Name ∷ T t.Newline ∷ [])
 row Alias d _ = Some (T t.Newline ∷ [])
 row Parts d t.Import = Some (T t.Import ∷ T t.Name ∷ N Alias d ∷ N Parts d ∷ [])
 row Parts d t.Def =
-    Some (T t.Def ∷ T t.Name ∷ T t.OpenParen ∷ N (More Param) d ∷ T t.CloseParen ∷ T t.Colon ∷ N Block d ∷ N Parts d ∷ [])
+    Some (T t.Def ∷ T t.Name ∷ T t.OpenParen ∷ N
+    (More Param) d ∷ T t.CloseParen ∷ T t.Colon ∷ N Block d ∷ N Parts d ∷ [])
 row Parts d t.Text = Some (T t.Text ∷ T t.Newline ∷ N Parts d ∷ [])
 row Parts d t.End = Some []
 row Parts d _ = None

@@ -63,6 +63,7 @@ fn value_of(text: &[u8]) -> i64
 }
 
 impl<'a> Cursor<'a> {
+    /// Before the first of these tokens of a source.
     pub fn new(source: &'a [u8], rest: &'a [Token]) -> Cursor<'a>
         requires { length rest.now ≤ 2 ^ 31 }
         ensures { result ≡ lexemes source.now rest.now }
@@ -153,6 +154,7 @@ impl<'a> Cursor<'a> {
         }
     }
 
+    /// Takes a name; refused where the next token is none.
     #[tactic(auto, unfolding(crate::specs::Parser::name, crate::specs::Lexemes::same))]
     pub fn name(&mut self, alloc: Global) -> Result<Name, Failure>
         ensures { Reads (spec.name self.old) result self.new }
@@ -164,6 +166,7 @@ impl<'a> Cursor<'a> {
         }
     }
 
+    /// Takes a number, and gives its value; refused where the next token is none.
     #[tactic(auto, unfolding(crate::specs::Parser::number, crate::specs::Lexemes::same))]
     pub fn number(&mut self) -> Result<i64, Failure>
         ensures { Reads (spec.number self.old) result self.new }

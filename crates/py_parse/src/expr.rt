@@ -1,11 +1,12 @@
 //! Expressions: operands joined by operators.
 //!
-//! `depth` is how many levels may still open where the rule stands, `row` how many more a row of `not` or signs may open that the
-//! rule begins with. A later operand begins a row of its own.
+//! `depth` is how many levels may still open where the rule stands, `row` how many more a row of `not` or signs may
+//! open that the rule begins with. A later operand begins a row of its own.
 
 ghost use Rattle.std.specs.Prelude.{◌≡◌, ◌<◌, ◌-◌, IfOk};
 ghost use Rattle.py_parse.specs.declared.terminal.Terminal.TheVariants as t;
 ghost use Rattle.py_parse.specs.Descent as spec;
+ghost use Rattle.py_parse.specs.Levels.{links_at};
 ghost use Rattle.py_parse.specs.Parser.{Reads};
 ghost use Rattle.py_parse.specs.Trees as trees;
 
@@ -101,7 +102,7 @@ fn joined(
 }
 
 #[cycle(expr)]
-#[tactic(auto, using(crate::proofs::Rows::inverted_zero, crate::proofs::Rows::inverted_suc, crate::proofs::Rows::inverted_other))]
+#[tactic(auto, using(crate::proofs::Rows::inverted_rows))]
 fn inverted(alloc: Global, tokens: &mut Cursor<'_>, depth: u8, row: u8) -> Result<Expr, Failure>
     ensures { Reads (spec.inverted (spec.inside depth) depth row tokens.old) result tokens.new }
 {
@@ -164,7 +165,7 @@ fn links(
     level: u8,
 ) -> Result<Seq<(BinOp, Loc, Expr)>, Failure>
     requires { 0 < level }
-    ensures { Reads (spec.links level (spec.chain (spec.inside depth) depth (level - 1) depth) tokens.old) result tokens.new }
+    ensures { Reads (links_at level depth tokens.old) result tokens.new }
 {
     let mut found = Vec::new(alloc);
     for _turn in 0..tokens.left() {

@@ -59,7 +59,8 @@ fn note_of(alloc: Global, source: &[u8], note: &Token, next: Token) -> Result<No
     })
 }
 
-/// The notes, each with the first token behind it that is neither an Indent nor a Dedent. Both lists are read in one pass.
+/// The notes, each with the first token behind it that is neither an Indent nor a Dedent. Both lists are read in one
+/// pass.
 pub fn notes(
     alloc: Global,
     source: &[u8],

@@ -67,7 +67,8 @@ fn power(alloc: Global, tokens: &mut Cursor<'_>, front: u8, depth: u8) -> Result
     }
 }
 
-/// An operand and its trailers. `front` is for the parentheses that the operand may begin with, `depth` for the trailers' brackets.
+/// An operand and its trailers. `front` is for the parentheses that the operand may begin with, `depth` for the
+/// trailers' brackets.
 #[cycle(expr)]
 #[tactic(auto, unfolding(crate::specs::Descent::primary))]
 fn primary(alloc: Global, tokens: &mut Cursor<'_>, front: u8, depth: u8) -> Result<Expr, Failure>
@@ -147,7 +148,7 @@ fn parenthesis(alloc: Global, tokens: &mut Cursor<'_>, depth: u8) -> Result<Expr
 
 /// What stands behind an operand and belongs to it, up to the first token that begins no such thing.
 #[cycle(expr)]
-#[tactic(auto, using(crate::proofs::Turns::turn, crate::proofs::Rows::trailers_step, crate::proofs::Rows::trailers_end), unfolding(crate::specs::Descent::trailers))]
+#[tactic(auto, using(crate::proofs::Rows::trailers_turn), unfolding(crate::specs::Descent::trailers))]
 pub(crate) fn trailers(
     alloc: Global,
     tokens: &mut Cursor<'_>,
@@ -214,7 +215,8 @@ fn attribute(alloc: Global, tokens: &mut Cursor<'_>) -> Result<Trailer, Failure>
     Ok(Trailer::Attr(tokens.name(alloc)?))
 }
 
-/// Expressions with commas between them and maybe one behind, after those that were found, up to `close`, which isn't taken.
+/// Expressions with commas between them and maybe one behind, after those that were found, up to `close`, which isn't
+/// taken.
 #[cycle(expr)]
 #[tactic(auto, unfolding(crate::specs::Parser::more))]
 pub(crate) fn expressions(

@@ -52,9 +52,10 @@ fn read(alloc: Global, source: &[u8], tokens: &Tokens) -> Result<Module, Stop>
 
 /// The tree of a module's source and its tokens, by this project's grammar.
 ///
-/// The answer is the one tree that the grammar gives; [`Stop::Refused`] by `Rule::Syntax`, exactly where it gives none, at the first
-/// token that can't stand where it does or that opens the 65th level; or [`Stop::Memory`]. The tokens are read in one pass.
-#[tactic(auto, using(crate::proofs::Clauses::parse_tree, crate::proofs::Clauses::parse_refused, crate::proofs::Clauses::parse_only, crate::proofs::Clauses::parse_place))]
+/// The answer is the one tree that the grammar gives; [`Stop::Refused`] by `Rule::Syntax`, exactly where it gives none,
+/// at the first token that can't stand where it does or that opens the 65th level; or [`Stop::Memory`]. The tokens are
+/// read in one pass.
+#[tactic(auto, using(crate::proofs::Clauses::clauses))]
 pub fn parse(alloc: Global, source: &[u8], tokens: &Tokens) -> Result<Module, Stop>
     requires { IsLexed source.now tokens.now }
     ensures tree { IfOk result (λ m. IsTree source.now tokens.now m) }

@@ -32,7 +32,8 @@ pub struct Function {
     pub name: Name,
     pub params: Seq<Name>,
     pub body: Seq<Stmt>,
-    /// How many tokens it has, from its `def` to the Dedent or, where its body stands on the same line, the Newline that ends it.
+    /// How many tokens it has, from its `def` to the Dedent or, where its body stands on the same line, the Newline
+    /// that ends it.
     pub weight: u32,
 }
 
@@ -85,7 +86,8 @@ pub enum Expr {
     Prefix(u8, Loc, Boxed<Expr>),
     /// The base, the place of `**`, and the exponent.
     Power(Boxed<Expr>, Loc, i64),
-    /// What is called, picked from or asked for an attribute, which is no `Primary` itself, and the trailers in order, at least one.
+    /// What is called, picked from or asked for an attribute, which is no `Primary` itself, and the trailers in order,
+    /// at least one.
     Primary(Boxed<Expr>, Seq<Trailer>),
 }
 

@@ -4,7 +4,8 @@ use Rattle.py_parse.specs.Descent as spec
 use Rattle.py_parse.specs.Parser as parser
 use Rattle.py_parse.proofs.+expr.Given as goal
 
--- A level further in weighs more than all that stands at one level; a row and a level of operators weigh less than 256 each.
+-- A level further in weighs more than all that stands at one level; a row and a level of operators weigh less than 256
+-- each.
 abbrev pub decreases-expr::or_operands : goal.decreases-expr::or_operands
 decreases-expr::or_operands l = 2000 * l.depth + 1401
 
@@ -91,28 +92,36 @@ decreases-operand::bound l = 2000 * l.depth + 1404
 
 abbrev pub invariant-expr::or_operands-loop-turn : goal.invariant-expr::or_operands-loop-turn
 invariant-expr::or_operands-loop-turn l =
-    spec.joins t.Or (spec.conjunction (spec.inside l.depth) l.depth) l.fn.tokens ≡ spec.joins_from t.Or (spec.conjunction (spec.inside l.depth) l.depth) (l._turn-end - l._turn) l.found.items l.tokens
+    spec.joins t.Or (spec.conjunction (spec.inside l.depth) l.depth) l.fn.tokens ≡ spec.joins_from t.Or
+    (spec.conjunction (spec.inside l.depth) l.depth) (l._turn-end - l._turn) l.found.items l.tokens
 
 abbrev pub invariant-expr::and_operands-loop-turn : goal.invariant-expr::and_operands-loop-turn
 invariant-expr::and_operands-loop-turn l =
-    spec.joins t.And (spec.inverted (spec.inside l.depth) l.depth l.depth) l.fn.tokens ≡ spec.joins_from t.And (spec.inverted (spec.inside l.depth) l.depth l.depth) (l._turn-end - l._turn) l.found.items l.tokens
+    spec.joins t.And (spec.inverted (spec.inside l.depth) l.depth l.depth) l.fn.tokens ≡ spec.joins_from t.And
+    (spec.inverted (spec.inside l.depth) l.depth l.depth) (l._turn-end - l._turn) l.found.items l.tokens
 
 abbrev pub invariant-expr::links-loop-turn : goal.invariant-expr::links-loop-turn
 invariant-expr::links-loop-turn l =
-    spec.links l.level (spec.chain (spec.inside l.depth) l.depth (l.level - 1) l.depth) l.fn.tokens ≡ spec.links_from l.level (spec.chain (spec.inside l.depth) l.depth (l.level - 1) l.depth) (l._turn-end - l._turn) l.found.items l.tokens
+    spec.links l.level (spec.chain (spec.inside l.depth) l.depth
+    (l.level - 1) l.depth) l.fn.tokens ≡ spec.links_from l.level
+    (spec.chain (spec.inside l.depth) l.depth (l.level - 1) l.depth) (l._turn-end - l._turn) l.found.items l.tokens
 
 abbrev pub invariant-operand::trailers-loop-turn : goal.invariant-operand::trailers-loop-turn
 invariant-operand::trailers-loop-turn l =
-    spec.trailers (spec.inside l.depth) l.fn.tokens ≡ spec.trailers_from (spec.inside l.depth) (l._turn-end - l._turn) l.found.items l.tokens
+    spec.trailers (spec.inside l.depth) l.fn.tokens ≡ spec.trailers_from (spec.inside l.depth)
+    (l._turn-end - l._turn) l.found.items l.tokens
 
 abbrev pub invariant-operand::some_expressions-loop-turn : goal.invariant-operand::some_expressions-loop-turn
 invariant-operand::some_expressions-loop-turn l =
-    parser.some l.close (spec.expr l.depth) l.fn.found.items l.fn.tokens ≡ parser.some_from l.close (spec.expr l.depth) (l._turn-end - l._turn) l.found.items l.tokens
+    parser.some l.close (spec.expr l.depth) l.fn.found.items l.fn.tokens ≡ parser.some_from l.close (spec.expr l.depth)
+    (l._turn-end - l._turn) l.found.items l.tokens
 
 abbrev pub invariant-operand::some_args-loop-turn : goal.invariant-operand::some_args-loop-turn
 invariant-operand::some_args-loop-turn l =
-    parser.some t.CloseParen (spec.arg (spec.expr l.depth)) [] l.fn.tokens ≡ parser.some_from t.CloseParen (spec.arg (spec.expr l.depth)) (l._turn-end - l._turn) l.found.items l.tokens
+    parser.some t.CloseParen (spec.arg (spec.expr l.depth)) [] l.fn.tokens ≡ parser.some_from t.CloseParen
+    (spec.arg (spec.expr l.depth)) (l._turn-end - l._turn) l.found.items l.tokens
 
 abbrev pub invariant-operand::subscripts-loop-turn : goal.invariant-operand::subscripts-loop-turn
 invariant-operand::subscripts-loop-turn l =
-    parser.some t.CloseBracket (spec.subscript (spec.expr l.depth)) [] l.fn.tokens ≡ parser.some_from t.CloseBracket (spec.subscript (spec.expr l.depth)) (l._turn-end - l._turn) l.found.items l.tokens
+    parser.some t.CloseBracket (spec.subscript (spec.expr l.depth)) [] l.fn.tokens ≡ parser.some_from t.CloseBracket
+    (spec.subscript (spec.expr l.depth)) (l._turn-end - l._turn) l.found.items l.tokens

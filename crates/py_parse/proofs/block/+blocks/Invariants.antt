@@ -30,4 +30,5 @@ decreases-tail l = 8 * l.depth + 4
 
 abbrev pub invariant-statements_from-loop-turn : goal.invariant-statements_from-loop-turn
 invariant-statements_from-loop-turn l =
-    until t.Dedent (spec.stmt l.depth) (l.fn.first ∷ []) l.fn.tokens ≡ until_from t.Dedent (spec.stmt l.depth) (l._turn-end - l._turn) l.found.items l.tokens
+    until t.Dedent (spec.stmt l.depth) (l.fn.first ∷ []) l.fn.tokens ≡ until_from t.Dedent (spec.stmt l.depth)
+    (l._turn-end - l._turn) l.found.items l.tokens
