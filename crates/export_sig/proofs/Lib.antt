@@ -1,0 +1,12 @@
+pub mod Turns
+pub mod Tools
+pub mod WordTexts
+pub mod TypeTexts
+pub mod ExportTexts
+pub mod ClauseTexts
+pub mod Sets
+pub mod LoopLaws
+pub mod Scans
+pub mod ExportLaws
+pub mod DirectiveLaws
+pub mod Clauses

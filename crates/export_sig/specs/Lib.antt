@@ -1,0 +1,10 @@
+pub mod Blanks
+pub mod Types
+pub mod Signatures
+pub mod Clauses
+pub mod Loops
+pub mod NoteLists
+pub mod Exports
+pub mod Directives
+pub mod Reading
+pub mod Listing

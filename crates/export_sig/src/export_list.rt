@@ -1,0 +1,180 @@
+//! The signatures of a module.
+
+ghost use Rattle.std.specs.Prelude.{◌≡◌, [], filter, length, IfOk, IfErr, List};
+ghost use Rattle.std.specs.List.{list_any};
+ghost use Rattle.krn_base.specs.declared.refusal.Refusal.{Refusal};
+ghost use Rattle.krn_base.specs.declared.refusal.Rule.TheVariants as rule;
+ghost use Rattle.krn_base.specs.declared.refusal.Stop.TheVariants as stop;
+ghost use Rattle.export_sig.specs.declared.signature.Signature.{Signature};
+ghost use Rattle.export_sig.specs.Exports.{AreExports, IsExportRefusal, is_export, export_notes, parameter_count};
+ghost use Rattle.export_sig.specs.Listing as spec;
+ghost use Rattle.export_sig.specs.Listing.{Answers, scan, export_from, export_given};
+ghost use Rattle.export_sig.specs.NoteLists.{IsOnly, IsOnlyRefusal};
+ghost use Rattle.export_sig.specs.Reading.{Reads};
+
+use crate::export_note::signature_of;
+use crate::failure::Failure;
+use crate::signature::Signature;
+use crate::words::has_first_word;
+use krn_base::{ParamType, Refusal, Rule, Seq, Stop};
+use py_parse::{Function, Module, Note};
+use std::alloc::{AllocError, Global};
+
+/// An exported function has at most so many parameters.
+const MOST_PARAMS: usize = 16;
+
+/// A module has at most so many exports.
+const MOST_EXPORTS: usize = 64;
+
+// How many parameters the first function of this name has.
+fn parameter_count(functions: &[Function], name: &[u8]) -> Option<usize>
+    ensures { result ≡ parameter_count functions.now name.now }
+{
+    let mut rest = functions;
+    while let [function, more @ ..] = rest {
+        if name == function.name.text.as_slice() {
+            return Some(function.params.as_slice().len());
+        }
+        rest = more;
+    }
+    None
+}
+
+fn is_type(a: ParamType, b: ParamType) -> bool
+    ensures { result ≡ spec.is_type a b }
+{
+    match (a, b) {
+        (ParamType::Scalar(k), ParamType::Scalar(l)) => k == l,
+        (ParamType::Flat(k, n), ParamType::Flat(l, m)) => k == l && n == m,
+        (ParamType::Strided(k, n), ParamType::Strided(l, m)) => k == l && n == m,
+        _ => false,
+    }
+}
+
+fn are_types(a: &[ParamType], b: &[ParamType]) -> bool
+    ensures { result ≡ spec.are_types a.now b.now }
+{
+    let mut left = a;
+    let mut right = b;
+    while let [t, ts @ ..] = left {
+        let [u, us @ ..] = right else {
+            return false;
+        };
+        if !is_type(*t, *u) {
+            return false;
+        }
+        left = ts;
+        right = us;
+    }
+    right.is_empty()
+}
+
+fn is_repeated(s: &Signature, t: &Signature) -> bool
+    ensures { result ≡ spec.is_repeated s.now t.now }
+{
+    s.name.text.as_slice() == t.name.text.as_slice()
+        && are_types(s.params.as_slice(), t.params.as_slice())
+}
+
+fn any_repeated(s: &Signature, found: &[Signature]) -> bool
+    ensures { result ≡ list_any (spec.is_repeated s.now) found.now }
+{
+    let mut rest = found;
+    while let [first, more @ ..] = rest {
+        if is_repeated(s, first) {
+            return true;
+        }
+        rest = more;
+    }
+    false
+}
+
+fn has_params(functions: &[Function], s: &Signature) -> bool
+    ensures { result ≡ spec.is_count (parameter_count functions.now s.now.name.text) (length s.now.params) }
+{
+    match parameter_count(functions, s.name.text.as_slice()) {
+        Some(count) => count == s.params.as_slice().len(),
+        None => false,
+    }
+}
+
+// Whether a signature may stand behind those that were found.
+#[tactic(auto, unfolding(crate::specs::Listing::is_admitted))]
+fn is_admitted(functions: &[Function], found: &[Signature], s: &Signature) -> bool
+    ensures { result ≡ spec.is_admitted functions.now found.now s.now }
+{
+    if !has_params(functions, s) {
+        return false;
+    }
+    if s.params.as_slice().len() > MOST_PARAMS {
+        return false;
+    }
+    if found.len() >= MOST_EXPORTS {
+        return false;
+    }
+    !any_repeated(s, found)
+}
+
+#[tactic(auto, unfolding(crate::specs::Listing::export_from))]
+fn signature(
+    alloc: Global,
+    functions: &[Function],
+    found: &[Signature],
+    note: &Note,
+) -> Result<Signature, Failure>
+    ensures { Reads (λ s. s) result (export_from functions.now found.now note.now) }
+{
+    let signature = signature_of(alloc, note)?;
+    if is_admitted(functions, found, &signature) {
+        Ok(signature)
+    } else {
+        Err(Failure::Malformed)
+    }
+}
+
+fn is_export(note: &Note) -> bool
+    ensures { result ≡ is_export note.now }
+{
+    has_first_word(note.text.as_slice(), b"pythran")
+}
+
+// The signatures by one pass over the notes.
+fn signatures(alloc: Global, functions: &[Function], notes: &[Note]) -> Result<Seq<Signature>, Stop>
+    ensures { Answers rule.Export (scan (export_given functions.now) [] (filter is_export notes.now)) result }
+{
+    let mut found = Vec::new(alloc);
+    let mut rest = notes;
+    while let [note, more @ ..] = rest {
+        rest = more;
+        if !is_export(note) {
+            continue;
+        }
+        match signature(alloc, functions, found.as_slice(), note) {
+            Ok(signature) => found.push(signature).map_err(AllocError::from)?,
+            Err(Failure::Memory) => return Err(Stop::Memory),
+            Err(Failure::Malformed) => {
+                return Err(Stop::Refused(Refusal {
+                    rule: Rule::Export,
+                    loc: note.loc,
+                }));
+            }
+        }
+    }
+    Ok(Seq::from_vec(found))
+}
+
+/// The signatures of a module's export notes, in the order of the notes.
+///
+/// A note is refused by `Rule::Export` at its `#` where it is malformed, names no function of the module, has
+/// another number of types than that function has parameters (the first function of the name counts), has more than
+/// 16, repeats name and types of a signature before it, or is the 65th; the first such note in the text gives the
+/// refusal. Nothing is asked of the module. Each note is read once and looked up in the functions and in the
+/// signatures so far; no note behind the 65th is read.
+pub fn exports(alloc: Global, module: &Module) -> Result<Seq<Signature>, Stop>
+    ensures signatures { IfOk result (λ signatures. AreExports «module».now signatures) }
+    ensures refused { IfErr result (IsExportRefusal «module».now) }
+    ensures only { (signatures : List Signature) → AreExports «module».now signatures → IsOnly signatures result }
+    ensures place { (r : Refusal) → IsExportRefusal «module».now (stop.Refused r) → IsOnlyRefusal r result }
+{
+    signatures(alloc, module.functions.as_slice(), module.notes.as_slice())
+}
