@@ -1,5 +1,6 @@
 -- How many elements a shape has.
-use Rattle.std.proofs.Common.{◌≡◌, ℕ, zero, suc, ◌+◌, ◌*◌, ◌<◌, min, List, [], ◌∷◌, ◌++◌, length, get_or, take, refl, sym, ap, ◌∙◌, inl, inr, arith}
+use Rattle.std.proofs.Common.{◌≡◌, ℕ, zero, suc, ◌+◌, ◌*◌, ◌<◌, min, List, [], ◌∷◌, ◌++◌, length, get_or, take, refl}
+use Rattle.std.proofs.Common.{sym, ap, ◌∙◌, inl, inr, arith}
 use Rattle.std.proofs.lemmas.Bool.{cases_lt}
 use Rattle.std.proofs.lemmas.Grind.{take_at_read}
 use Rattle.view_places.specs.Arrays.{element_count}
@@ -20,8 +21,10 @@ capped x n bound =
       | inr le ↦ let e : min x bound ≡ x = omega arith in rw e refl
     ]
 
-pub count_more : (bound : ℕ) (xs : List ℕ) (i : ℕ) → i < length xs → min (min (element_count (take i xs)) bound * get_or xs i 0) bound ≡ min (element_count (take (i + 1) xs)) bound
+pub count_more : (bound : ℕ) (xs : List ℕ) (i : ℕ) → i < length xs →
+    min (min (element_count (take i xs)) bound * get_or xs i 0) bound ≡ min (element_count (take (i + 1) xs)) bound
 count_more bound xs i lt =
     let e = element_count-append (take i xs) (get_or xs i 0 ∷ []) in
     let t = (take_at_read xs i 0 lt).1 in
-    capped (element_count (take i xs)) (get_or xs i 0) bound ∙ ap (λ (y : ℕ). min y bound) (omega arith ∙ sym (ap element_count t ∙ e))
+    capped (element_count (take i xs)) (get_or xs i 0) bound ∙
+    ap (λ (y : ℕ). min y bound) (omega arith ∙ sym (ap element_count t ∙ e))

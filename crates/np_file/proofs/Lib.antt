@@ -5,3 +5,4 @@ pub mod Elements
 pub mod Laws
 pub mod Turns
 pub mod Printed
+pub mod Writable

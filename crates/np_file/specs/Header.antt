@@ -1,6 +1,7 @@
 -- The header of an array file, as a grammar: which text stands for what. The form is that of version 1.0 in the NumPy
 -- reference (numpy.lib.format); how freely the dictionary may be laid out is this project's own rule.
-use Rattle.std.specs.Prelude.{◌≡◌, ℕ, suc, ◌<◌, ◌≤◌, ◌^◌, ◌==◌, nat_lt, Bool, true, false, not, ◌&&◌, ◌⊎◌, List, [], ◌∷◌, ◌++◌, length, replicate, Option, Some, None, codes}
+use Rattle.std.specs.Prelude.{◌≡◌, ℕ, suc, ◌<◌, ◌≤◌, ◌^◌, ◌==◌, nat_lt, Bool, true, false, not, ◌&&◌, ◌⊎◌, List, []}
+use Rattle.std.specs.Prelude.{◌∷◌, ◌++◌, length, replicate, Option, Some, None, codes}
 use Rattle.std.specs.List.{list_all}
 use Rattle.std.specs.Fmt.{decimal}
 
@@ -49,7 +50,8 @@ is_plain q b = nat_lt b 128 && not (b == q)
 
 -- a text in quotes: 39 is ', 34 is "
 abbrev pub quoted : List ℕ → List ℕ → Type 0
-quoted text = λ ts. (q : ℕ) × ((q ≡ 39) ⊎ (q ≡ 34)) × (list_all (is_plain q) text ≡ true) × spaced (q ∷ (text ++ q ∷ [])) ts
+quoted text = λ ts. (q : ℕ) × ((q ≡ 39) ⊎ (q ≡ 34)) × (list_all (is_plain q) text ≡ true) ×
+    spaced (q ∷ (text ++ q ∷ [])) ts
 
 -- a number within 64 bits, in decimal digits without a leading zero
 abbrev pub number : ℕ → List ℕ → Type 0

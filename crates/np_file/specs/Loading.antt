@@ -1,5 +1,7 @@
 -- Reading an array file from left to right, on lists, with the first part that isn't of the form.
-use Rattle.std.specs.Prelude.{◌≡◌, ℕ, ◌+◌, ◌*◌, ◌/◌, ◌%◌, ◌==◌, nat_lt, if◌then◌else◌, Bool, true, false, ◌⊎◌, List, [], ◌∷◌, length, take, drop, map, ℤ, Option, Some, None, codes, Result, Ok, Err}
+-- It mirrors private functions, whose clauses alone cite it; what a file is stands in `Npy` and `Header`.
+use Rattle.std.specs.Prelude.{◌≡◌, ℕ, ◌+◌, ◌*◌, ◌/◌, ◌%◌, ◌==◌, nat_lt, if◌then◌else◌, Bool, true, false, ◌⊎◌, List, []}
+use Rattle.std.specs.Prelude.{◌∷◌, length, take, drop, map, ℤ, Option, Some, None, codes, Result, Ok, Err}
 use Rattle.std.specs.List.{range_with_len}
 use Rattle.std.specs.Str.{bytes_eq}
 use Rattle.krn_base.specs.declared.kind.Kind.{Kind}
@@ -7,7 +9,8 @@ use Rattle.krn_base.specs.declared.kind.Kind.TheVariants as kinds
 use Rattle.view_places.specs.declared.shape.Array.{Array}
 use Rattle.view_places.specs.Arrays.{element_count, is_small}
 use Rattle.np_file.specs.declared.fault.NpyFault.{NpyFault}
-use Rattle.np_file.specs.declared.fault.NpyFault.TheVariants.{BadMagic, BadVersion, BadHeader, BadKind, TooLarge, BadLength, Memory}
+use Rattle.np_file.specs.declared.fault.NpyFault.TheVariants.{BadMagic, BadVersion, BadHeader, BadKind, TooLarge}
+use Rattle.np_file.specs.declared.fault.NpyFault.TheVariants.{BadLength, Memory}
 use Rattle.np_file.specs.Header.{Heading}
 use Rattle.np_file.specs.Npy.{magic, version, element_size, word, words_of, shape_of}
 use Rattle.np_file.specs.Reading.{stripped, header_at}
@@ -30,7 +33,8 @@ or_fault f (Some x) = Ok x
 abbrev pub text_at : List ℕ → Option (List ℕ × List ℕ)
 text_at [] = None
 text_at (low ∷ []) = None
-text_at (low ∷ high ∷ rest) = if nat_lt (length rest) (low + 256 * high) then None else Some (take (low + 256 * high) rest, drop (low + 256 * high) rest)
+text_at (low ∷ high ∷ rest) = if nat_lt (length rest) (low + 256 * high) then None else Some
+    (take (low + 256 * high) rest, drop (low + 256 * high) rest)
 
 unfoldable pub preamble_at : List ℕ → Result (Heading × List ℕ) NpyFault
 preamble_at bytes = do
@@ -79,10 +83,16 @@ place_at true ns k = transposed ns k
 
 -- the first n words, one element after the other
 abbrev pub first_words : Plan → ℕ → List ℤ
-first_words plan n = map (λ k. word plan.kind plan.elements (place_at plan.first_fastest plan.shape k)) (range_with_len 0 n)
+first_words plan n = map (λ k. word plan.kind plan.elements (place_at plan.first_fastest plan.shape k))
+    (range_with_len 0 n)
 
 abbrev pub array_of : Plan → Array
-array_of plan = record { kind = plan.kind; shape = shape_of plan.shape; words = words_of plan.kind plan.first_fastest plan.shape plan.elements }
+array_of plan = record {
+  kind = plan.kind;
+  shape = shape_of plan.shape;
+  words =
+      words_of plan.kind plan.first_fastest plan.shape plan.elements;
+}
 
 unfoldable pub array_at : List ℕ → Result Array NpyFault
 array_at bytes = do

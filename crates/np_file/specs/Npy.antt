@@ -1,7 +1,9 @@
--- Array files: a relation between bytes and arrays, the first part of the bytes that breaks it, and the one form that is
--- written. The form is version 1.0 of the NumPy reference's `.npy`, in the element types `<i8` and `|b1`; the limit of
--- 2^22 elements is this project's own.
-use Rattle.std.specs.Prelude.{◌≡◌, ◌≢◌, ℕ, ◌+◌, ◌-◌, ◌*◌, ◌%◌, ◌==◌, if◌then◌else◌, Bool, true, false, ◌⊎◌, ℤ, pos, List, [], ◌∷◌, ◌++◌, map, length, take, drop, replicate, reverse, slice_index, codes, Result, Ok, Err}
+-- Array files: a relation between bytes and arrays, the first part of the bytes that breaks it, and the one form that
+-- is written. The form is version 1.0 of the NumPy reference's `.npy`, in the element types `<i8` and `|b1`; the limit
+-- of 2^22 elements is this project's own.
+use Rattle.std.specs.Prelude.{◌≡◌, ◌≢◌, ◌≤◌, ℕ, ◌+◌, ◌-◌, ◌*◌, ◌%◌, ◌==◌, if◌then◌else◌, Bool, true, false, ◌⊎◌, ℤ, pos}
+use Rattle.std.specs.Prelude.{List, [], ◌∷◌, ◌++◌, map, length, take, drop, replicate, reverse, slice_index, codes}
+use Rattle.std.specs.Prelude.{Result, Ok, Err}
 use Rattle.std.specs.List.{flat_map, AllByRecursion}
 use Rattle.std.specs.Int.{w64, cast_signed, cast_unsigned}
 use Rattle.std.specs.Ordering.{int_eq}
@@ -12,9 +14,10 @@ use Rattle.krn_base.specs.declared.kind.Kind.TheVariants as kinds
 use Rattle.view_places.specs.declared.shape.Array.{Array}
 use Rattle.view_places.specs.declared.shape.Shape.{Shape}
 use Rattle.view_places.specs.Arrays.{element_count, indices, order_of, is_small}
-use Rattle.view_places.specs.Shape.{extents}
+use Rattle.view_places.specs.Shape.{IsShape, extents}
 use Rattle.np_file.specs.declared.fault.NpyFault.{NpyFault}
-use Rattle.np_file.specs.declared.fault.NpyFault.TheVariants.{BadMagic, BadVersion, BadHeader, BadKind, TooLarge, BadLength, Memory}
+use Rattle.np_file.specs.declared.fault.NpyFault.TheVariants.{BadMagic, BadVersion, BadHeader, BadKind, TooLarge}
+use Rattle.np_file.specs.declared.fault.NpyFault.TheVariants.{BadLength, Memory}
 use Rattle.np_file.specs.Header.{Heading, IsHeader}
 
 -- the byte 0x93 and `NUMPY`
@@ -141,9 +144,11 @@ tuple_text (n ∷ m ∷ ns) = codes "(" ++ (decimal n ++ more_numbers (m ∷ ns)
 
 -- the dictionary of an array of this kind with these extents, as Python prints it
 abbrev pub dictionary : Kind → List ℕ → List ℕ
-dictionary kind ns = codes "{'descr': '" ++ (descr_of kind ++ (codes "', 'fortran_order': False, 'shape': " ++ (tuple_text ns ++ codes ", }")))
+dictionary kind ns = codes "{'descr': '" ++
+    (descr_of kind ++ (codes "', 'fortran_order': False, 'shape': " ++ (tuple_text ns ++ codes ", }")))
 
--- the spaces with which ten bytes, a dictionary of n bytes, the spaces and a line feed have the least multiple of 64 bytes
+-- the spaces with which ten bytes, a dictionary of n bytes, the spaces and a line feed have the least multiple of 64
+-- bytes
 abbrev pub padding : ℕ → ℕ
 padding n = (64 - (n + 11) % 64) % 64
 
@@ -157,7 +162,8 @@ element kinds.Bool z = (if int_eq z (pos 0) then 0 else 1) ∷ []
 
 -- the file of an array
 abbrev pub file_text : Kind → List ℕ → List ℤ → List ℕ
-file_text kind ns zs = magic ++ (version ++ (little_bytes 2 (length (header_text kind ns)) ++ (header_text kind ns ++ flat_map (element kind) zs)))
+file_text kind ns zs = magic ++ (version ++
+    (little_bytes 2 (length (header_text kind ns)) ++ (header_text kind ns ++ flat_map (element kind) zs)))
 
 abbrev pub npy_text : Array → List ℕ
 npy_text a = file_text a.kind (extents a.shape) a.words
@@ -170,3 +176,11 @@ IsTruth z = (z ≡ pos 0) ⊎ (z ≡ pos 1)
 abbrev pub AreWords : Kind → List ℤ → Type 0
 AreWords kinds.Int64 zs = Unit {0}
 AreWords kinds.Bool zs = AllByRecursion IsTruth zs
+
+-- An array that may be written.
+pub record IsWritable (a : Array) : Type 0 where
+  pub shape : IsShape a.shape
+  pub rank : 1 ≤ a.shape.rank
+  pub small : is_small (extents a.shape) ≡ true
+  pub count : length a.words ≡ element_count (extents a.shape)
+  pub words : AreWords a.kind a.words

@@ -1,7 +1,8 @@
 //! The header of an array file: a dictionary of three entries.
 
 ghost use Rattle.std.specs.Prelude.{◌≡◌, ◌∷◌, []};
-ghost use Rattle.np_file.specs.Reading.{Gives, number_or_end, step_at, numbers_at, tuple_at, truth_at, descr_at, order_at, shape_at, value_at, field_at, ended, ends_at, fields_at, header_at};
+ghost use Rattle.np_file.specs.Reading.{Gives, number_or_end, step_at, numbers_at, tuple_at, truth_at, descr_at};
+ghost use Rattle.np_file.specs.Reading.{order_at, shape_at, value_at, field_at, ended, ends_at, fields_at, header_at};
 ghost use Rattle.np_file.specs.Reading.{sign_at};
 ghost use Rattle.np_file.specs.Header.{arranged};
 ghost use Rattle.np_file.specs.Views.{numbers, view_step, view_entry, view_header};
@@ -179,7 +180,8 @@ fn is_ending(text: &[u8]) -> bool
 
 /// The header that three entries make, each key standing once.
 fn arrange<'a>(first: Entry<'a>, second: Entry<'a>, third: Entry<'a>) -> Option<Header<'a>>
-    ensures { Gives view_header result (arranged (view_entry first.entry) (view_entry second.entry) (view_entry third.entry)) }
+    ensures { Gives view_header result
+        (arranged (view_entry first.entry) (view_entry second.entry) (view_entry third.entry)) }
 {
     let (descr, first_fastest, shape) = match (first, second, third) {
         (Entry::Descr(d), Entry::Order(f), Entry::Shape(s)) => (d, f, s),

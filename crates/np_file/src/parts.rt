@@ -4,7 +4,8 @@ ghost use Rattle.std.specs.Prelude.{◌≡◌, ◌≤◌, ◌^◌, length, min, 
 ghost use Rattle.std.specs.List.{prefix_len, list_all};
 ghost use Rattle.std.specs.Char.{is_ascii_digit};
 ghost use Rattle.np_file.specs.Header.{is_plain};
-ghost use Rattle.np_file.specs.Reading.{Gives, after_spaces, sign_at, word_at, quoted_by, quoted_at, digits_value, number_of, number_in, number_at};
+ghost use Rattle.np_file.specs.Reading.{Gives, after_spaces, sign_at, word_at, quoted_by, quoted_at, digits_value};
+ghost use Rattle.np_file.specs.Reading.{number_of, number_in, number_at};
 
 /// One more than the greatest number that is read.
 const BOUND: u64 = 1 << 63;

@@ -1,10 +1,12 @@
-ghost use Rattle.std.specs.Prelude.{◌≡◌, ◌-◌, ◌*◌, ◌<◌, ◌≤◌, ◌^◌, ℕ, true, length, nat_le, IfOk, IfErr, IfSome, IfNone, ◌⊎◌, ◌+◌, false, min};
+ghost use Rattle.std.specs.Prelude.{◌≡◌, ◌-◌, ◌*◌, ◌<◌, ◌≤◌, ◌^◌, ℕ, true, length, nat_le, IfOk, IfErr, IfSome, IfNone};
+ghost use Rattle.std.specs.Prelude.{◌⊎◌, ◌+◌, false, min};
 ghost use Rattle.std.specs.List.{list_all};
-ghost use Rattle.view_places.specs.Arrays.{element_count, is_small};
+ghost use Rattle.view_places.specs.Arrays.{element_count, is_small, max_elements};
 ghost use Rattle.view_places.specs.Shape.{extents};
 ghost use Rattle.np_file.specs.Npy.{IsNpy, IsOnly, IsRefused, NpyRefusal, element_size, word, shape_of};
 ghost use Rattle.np_file.specs.Reading.{Gives};
-ghost use Rattle.np_file.specs.Loading.{Loads, text_at, preamble_at, kind_of, plan_at, place_at, transposed, first_words, array_at, Answers};
+ghost use Rattle.np_file.specs.Loading.{Loads, text_at, preamble_at, kind_of, plan_at, place_at, transposed};
+ghost use Rattle.np_file.specs.Loading.{first_words, array_at, Answers};
 ghost use Rattle.np_file.specs.Views.{view_header, view_layout, FitsElements};
 
 use crate::fault::NpyFault;
@@ -12,7 +14,7 @@ use crate::header::{Header, read_header};
 use byteorder::{ByteOrder, LittleEndian};
 use krn_base::{Kind, Seq};
 use std::alloc::{AllocError, Global};
-use view_places::{Array, Shape};
+use view_places::{Array, MAX_ELEMENTS, Shape};
 
 /// The bytes with which an array file begins.
 pub const MAGIC: [u8; 6] = [0x93, b'N', b'U', b'M', b'P', b'Y'];
@@ -21,7 +23,7 @@ pub const MAGIC: [u8; 6] = [0x93, b'N', b'U', b'M', b'P', b'Y'];
 pub const VERSION: [u8; 2] = [1, 0];
 
 /// The greatest extent and the greatest number of elements of an array.
-const LIMIT: u64 = 1 << 22;
+const LIMIT: u64 = MAX_ELEMENTS as u64;
 
 /// An array that is still to be taken out of its elements.
 #[derive(Clone, Copy)]
@@ -99,7 +101,7 @@ fn bounded_count(extents: &[u64]) -> u64
 
 /// Whether each extent is within the limit.
 fn are_extents_small(extents: &[u64]) -> bool
-    ensures { result ≡ list_all (λ n. nat_le n (2 ^ 22)) extents.now }
+    ensures { result ≡ list_all (λ n. nat_le n max_elements) extents.now }
 {
     for extent in extents {
         if *extent > LIMIT {
@@ -111,7 +113,9 @@ fn are_extents_small(extents: &[u64]) -> bool
 
 /// The number of elements, where the extents and that number are within the limit.
 fn small_count(extents: &[u64]) -> Option<usize>
-    ensures count { IfSome result (λ count. (is_small extents.now ≡ true) × (count ≡ element_count extents.now) × (count ≤ 2 ^ 22)) }
+    ensures small { IfSome result (λ count. is_small extents.now ≡ true) }
+    ensures count { IfSome result (λ count. count ≡ element_count extents.now) }
+    ensures few { IfSome result (λ count. count ≤ max_elements) }
     ensures large { IfNone result (is_small extents.now ≡ false) }
 {
     if !are_extents_small(extents) {
@@ -252,7 +256,8 @@ pub fn read_npy(alloc: Global, bytes: &[u8]) -> Result<Array, NpyFault>
     // What the bytes show is the refusal, unless memory is wanting.
     ensures shown { (f : NpyFault) → NpyRefusal bytes.now f → IsRefused f result }
 
-    // No bytes are the file of two arrays, show two refusals or are both a file and refused, and each is one of the two.
+    // No bytes are the file of two arrays, show two refusals or are both a file and refused, and each is one of the
+    // two.
     ensures one_array { (a b : Array) → IsNpy bytes.now a → IsNpy bytes.now b → a ≡ b }
     ensures one_refusal { (f g : NpyFault) → NpyRefusal bytes.now f → NpyRefusal bytes.now g → f ≡ g }
     ensures not_both { (a : Array) (f : NpyFault) → IsNpy bytes.now a → NpyRefusal bytes.now f → ⊥ }

@@ -1,11 +1,12 @@
-ghost use Rattle.std.specs.Prelude.{◌≡◌, ◌+◌, ◌<◌, ◌≤◌, ◌^◌, ◌++◌, length, true, codes, IfOk, OnOk, replicate};
+ghost use Rattle.std.specs.Prelude.{◌≡◌, ◌+◌, ◌%◌, ◌<◌, ◌≤◌, ◌^◌, ◌++◌, length, true, codes, IfOk, OnOk, replicate};
 ghost use Rattle.view_places.specs.Arrays.{element_count, is_small};
 ghost use Rattle.view_places.specs.Shape.{IsShape, extents};
 ghost use Rattle.std.specs.Fmt.{decimal};
 ghost use Rattle.std.specs.List.{flat_map, AllByRecursion};
 ghost use Rattle.std.specs.Int.{w64};
 ghost use Rattle.std.specs.Int.RustNames.{FitsSigned};
-ghost use Rattle.np_file.specs.Npy.{IsNpy, AreWords, descr_of, dictionary, element, file_text, header_text, more_numbers, npy_text, padding, tuple_text};
+ghost use Rattle.np_file.specs.Npy.{IsNpy, AreWords, descr_of, dictionary, element, file_text, header_text};
+ghost use Rattle.np_file.specs.Npy.{more_numbers, npy_text, padding, tuple_text};
 
 use crate::reading::{MAGIC, VERSION};
 use byteorder::{ByteOrder, LittleEndian};
@@ -23,6 +24,7 @@ fn descr(kind: Kind) -> &'static [u8]
     }
 }
 
+/// A number in decimal.
 fn push_number(out: &mut Vec<u8>, alloc: Global, number: u32) -> Result<(), AllocError>
     ensures { OnOk result (out.new.items ≡ out.old.items ++ decimal number) }
 {
@@ -75,6 +77,7 @@ fn dictionary_of(alloc: Global, kind: Kind, extents: &[u32]) -> Result<Vec<u8>, 
     Ok(out)
 }
 
+/// As many spaces.
 fn push_spaces(out: &mut Vec<u8>, count: usize) -> Result<(), AllocError>
     ensures { OnOk result (out.new.items ≡ out.old.items ++ replicate count 32) }
 {
@@ -115,6 +118,7 @@ fn push_elements(out: &mut Vec<u8>, kind: Kind, words: &[i64]) -> Result<(), All
     Ok(())
 }
 
+/// The bytes of one element: eight of an int64, the low one first, or a truth value's one.
 fn push_element(out: &mut Vec<u8>, kind: Kind, word: i64) -> Result<(), AllocError>
     ensures { OnOk result (out.new.items ≡ out.old.items ++ element kind word) }
 {
@@ -148,8 +152,8 @@ fn file_of(alloc: Global, kind: Kind, extents: &[u32], words: &[i64]) -> Result<
 }
 
 /// The file of an array in the one form that is written: version 1.0 of NumPy's `.npy`, in row-major order, with the
-/// dictionary as Python prints it and as many spaces as let the elements begin at a multiple of 64. The array has one to
-/// four dimensions, a word for each element, and words 0 or 1 where its kind is Bool. `Err` is want of memory.
+/// dictionary as Python prints it and as many spaces as let the elements begin at a multiple of 64. The array has one
+/// to four dimensions, a word for each element, and words 0 or 1 where its kind is Bool. `Err` is want of memory.
 pub fn write_npy(alloc: Global, array: &Array) -> Result<Vec<u8>, NoMemory>
     requires shape { IsShape array.now.shape }
     requires rank { 1 ≤ array.now.shape.rank }
@@ -161,6 +165,9 @@ pub fn write_npy(alloc: Global, array: &Array) -> Result<Vec<u8>, NoMemory>
     ensures text { IfOk result (λ v. v.items ≡ npy_text array.now) }
     // They are a file of the array, and so of no other.
     ensures back { IfOk result (λ v. IsNpy v.items array.now) }
+    // Ten bytes and the header are a multiple of 64 bytes, with fewer than 64 spaces.
+    ensures aligned { (10 + length (header_text array.now.kind (extents array.now.shape))) % 64 ≡ 0 }
+    ensures least { padding (length (dictionary array.now.kind (extents array.now.shape))) < 64 }
 {
     let extents = &array.shape.extent[..array.shape.rank as usize];
     let words = array.words.as_slice();

@@ -4,7 +4,11 @@ use Rattle.std.specs.Char.{is_ascii_digit}
 use Rattle.np_file.proofs.parts.digit_count.Given as goal
 
 abbrev pub invariant-loop-rest : goal.invariant-loop-rest
-invariant-loop-rest l = record { read : l.len + prefix_len is_ascii_digit l.rest ≡ prefix_len is_ascii_digit l.fn.text; left : l.len + length l.rest ≡ length l.fn.text }
+invariant-loop-rest l = record {
+  read : l.len + prefix_len is_ascii_digit l.rest ≡
+      prefix_len is_ascii_digit l.fn.text;
+  left : l.len + length l.rest ≡ length l.fn.text;
+}
 
 abbrev pub decreases-loop-rest : goal.decreases-loop-rest
 decreases-loop-rest l = length l.rest

@@ -10,5 +10,6 @@ pub loop-k-preserved : goal.loop-k-preserved
 loop-k-preserved c =
     let l = c.args.layout.now in
     words_more (view_layout l) c.loop-k.k c.loop-k.words.items c.push.new.self.items c.element_word.result
-    (c.in_ok-push.ensures.items ∙ ap (λ z. c.loop-k.words.items ++ z ∷ []) (to_z-of_z w64 c.element_word.result (search rules)))
+    (c.in_ok-push.ensures.items ∙ ap (λ z. c.loop-k.words.items ++ z ∷ [])
+    (to_z-of_z w64 c.element_word.result (search rules)))
     (c.element_word.ensures ∙ ap (word l.kind l.elements.now) c.place_in_file-place.ensures.value) c.loop-k.invariant
