@@ -1,0 +1,15 @@
+use Rattle.std.proofs.Common.{◌≡◌, ◌<◌, map}
+use Rattle.std.specs.List.{range_with_len}
+use Rattle.array_ops.specs.Elements.{choose}
+use Rattle.array_ops.specs.Sources.{StandsAt, item_of, list_of}
+use Rattle.array_ops.proofs.mapping.map_select.Given as goal
+
+-- the results so far
+abbrev pub invariant-loop-k : goal.invariant-loop-k
+invariant-loop-k l =
+    (l.words ≡ map (λ j.
+    choose (item_of l.fn.count l.fn.mask j, (item_of l.fn.count l.fn.a j, item_of l.fn.count l.fn.b j)))
+    (range_with_len 0 l.k))
+    × ((list_of l.fn.count l.mask ≡ list_of l.fn.count l.fn.mask) × ((l.k < l.fn.count → StandsAt l.fn.count l.k l.mask)
+    × ((list_of l.fn.count l.a ≡ list_of l.fn.count l.fn.a) × ((l.k < l.fn.count → StandsAt l.fn.count l.k l.a)
+    × ((list_of l.fn.count l.b ≡ list_of l.fn.count l.fn.b) × (l.k < l.fn.count → StandsAt l.fn.count l.k l.b))))))

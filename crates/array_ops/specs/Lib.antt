@@ -1,0 +1,5 @@
+pub mod Arrays
+pub mod Elements
+pub mod Operands
+pub mod Sources
+pub mod Subscripts
