@@ -1,0 +1,5 @@
+pub mod Loops
+pub mod Sets
+pub mod Inside
+pub mod Weights
+pub mod Blocks

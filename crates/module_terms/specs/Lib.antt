@@ -1,0 +1,5 @@
+pub mod Rows
+pub mod Numpy
+pub mod Calls
+pub mod Expressions
+pub mod Lines
