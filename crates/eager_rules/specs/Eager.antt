@@ -1,118 +1,111 @@
--- Eager evaluation: one whole-array operation after another. An element operation reads its operands as whole lists, spread to
--- their broadcast shape, and makes a new buffer of the results. The rules are those of the NumPy reference; a word wraps at 64 bits.
-use Rattle.std.specs.Prelude.{ℕ, zero, ◌-◌, List, [], ◌∷◌, ◌++◌, map, length, take, replicate, slice_set, Some, None, Result, Ok, Err, ℤ, pos, true, false}
-use Rattle.std.specs.List.{zip, range_with_len, flat_map}
-use Rattle.krn_base.specs.Numbers.{element_result, unary_result}
-use Rattle.krn_base.specs.declared.fault.Fault.{Fault}
-use Rattle.krn_base.specs.declared.kind.Kind.{Kind}
-use Rattle.krn_base.specs.declared.place.Loc.{Loc}
-use Rattle.view_places.specs.Arrays.{broadcast_of, element_count, spread}
-use Rattle.view_places.specs.declared.shape.Array.{Array}
-use Rattle.view_places.specs.declared.shape.Shape.{Shape}
-use Rattle.eager_rules.specs.State.{State, Bound, Unbound, WordOf, ArrayOf, elements_at, bound_of}
-use Rattle.eager_rules.specs.declared.outcome.Outcome.{Outcome}
-use Rattle.eager_rules.specs.declared.outcome.Value.{Value}
-use Rattle.eager_rules.specs.declared.outcome.Value.TheVariants as value
+-- Eager evaluation: one whole-array operation after another. A statement takes a state to a state and an end. It is
+-- what it reads, what it binds and its work; only `If`, `For` and `Return` are more than that.
+use Rattle.std.specs.Prelude.{ℕ, zero, suc, ◌&&◌, Bool, true, false, nat_lt, ℤ, List, [], ◌∷◌, map, length, replicate}
+use Rattle.std.specs.Prelude.{slice_get}
+use Rattle.std.specs.Prelude.{Option, Some, None}
+use Rattle.std.specs.List.{list_all, range_with_len}
+use Rattle.array_ops.specs.Elements.{Bound, Unbound, WordOf}
+use Rattle.eager_rules.specs.Blocks.{Meaning, End, GoesOn, Returned, Faulted, Stuck, in_order, loop_over, choice}
+use Rattle.eager_rules.specs.State.{State, operand, is_bound, bind, with_buffers}
+use Rattle.eager_rules.specs.Statements.{reads_of, binds_of}
+use Rattle.eager_rules.specs.Works.{Done, Made, Failed, Blocked, Work, word_of, move_work, word_work, extent_work}
+use Rattle.eager_rules.specs.Works.{get_work, put_work}
+use Rattle.eager_rules.specs.Works.{pick_work, flip_work, fresh_work, map_work, reduce_work, store_work, range_values}
 use Rattle.eager_rules.specs.declared.program.Core.{Core}
-use Rattle.eager_rules.specs.declared.program.Core.TheVariants as core
+use Rattle.eager_rules.specs.declared.program.Core.TheOpen as c
+use Rattle.eager_rules.specs.declared.program.Core.TheFolds.{fold-Core}
 use Rattle.eager_rules.specs.declared.program.Instance.{Instance}
-use Rattle.eager_rules.specs.declared.program.MapOp.{MapOp}
-use Rattle.eager_rules.specs.declared.program.MapOp.TheVariants as map_op
 use Rattle.eager_rules.specs.declared.program.Oper.{Oper}
-use Rattle.eager_rules.specs.declared.program.Oper.TheVariants as oper
 
--- how a statement ends: the next one follows, the kernel returns these operands, or it faults at a place
-pub data End : Type 0 where
-  GoesOn : End
-  Returned : List Bound → End
-  Faulted : Fault → Loc → End
+-- one value to one name after another, as far as there are both
+abbrev pub bind_all : List ℕ → List Bound → State → State
+bind_all to [] s = s
+bind_all [] (value ∷ values) s = s
+bind_all (name ∷ to) (value ∷ values) s = bind_all to values (bind name value s)
 
--- what an operand stands for
-abbrev pub operand : State → Oper → Bound
-operand s (oper.Int z) = WordOf z
-operand s (oper.Truth true) = WordOf (pos 1)
-operand s (oper.Truth false) = WordOf (pos 0)
-operand s (oper.Name name) = bound_of s name
+-- what is read is bound, and what is to be bound is a name of the instance
+abbrev pub ready : State → List Oper → List ℕ → Bool
+ready s reads to = list_all (λ x. is_bound (operand s x)) reads && list_all (λ name. nat_lt name (length s.names)) to
 
--- the extents of those operands that are arrays
-abbrev pub extents_of : Bound → List (List ℕ)
-extents_of Unbound = []
-extents_of (WordOf z) = []
-extents_of (ArrayOf buffer ns places) = ns ∷ []
+abbrev pub where_ready : Bool → State × End → State → State × End
+where_ready true q s = q
+where_ready false q s = (s, Stuck)
 
--- an operand as a whole list, spread to a shape
-abbrev pub spread_to : List (List ℤ) → List ℕ → Bound → List ℤ
-spread_to buffers ns Unbound = []
-spread_to buffers ns (WordOf z) = replicate (element_count ns) z
-spread_to buffers ns (ArrayOf buffer from places) = spread (pos 0) from ns (elements_at buffers buffer places)
+-- the state after work: its buffers, and its values bound to names
+abbrev pub finish : List ℕ → Done → Meaning State
+finish to (Made buffers values) s = (bind_all to values (with_buffers buffers s), GoesOn)
+finish to (Failed buffers fault at) s = (with_buffers buffers s, Faulted fault at)
+finish to (Blocked buffers) s = (with_buffers buffers s, Stuck)
 
--- one element of the choice between two lists
-abbrev pub choose : ℤ × (ℤ × ℤ) → ℤ
-choose (pos zero, (x, y)) = y
-choose (mask, (x, y)) = x
+abbrev pub step : List Oper → List ℕ → Work → Meaning State
+step reads to work s = where_ready (ready s reads to) (finish to (work (map (operand s) reads) s.buffers) s) s
 
--- an element operation on lists of one length
-abbrev pub elements_of : MapOp → List (List ℤ) → List ℤ
-elements_of (map_op.Bin op) (xs ∷ ys ∷ []) = map (λ p. element_result op p.0 p.1) (zip xs ys)
-elements_of (map_op.Un op) (xs ∷ []) = map (unary_result op) xs
-elements_of map_op.Select (mask ∷ xs ∷ ys ∷ []) = map choose (zip mask (zip xs ys))
-elements_of _ _ = []
+-- what a call of each instance does
+abbrev pub Calls : Type 0
+Calls = ℕ → Work
 
--- the state after an element operation: a new buffer, to the whole of which the name is bound
-abbrev pub with_new : ℕ → List ℕ → List ℤ → State → State
-with_new to ns words s = record {
-  buffers = s.buffers ++ words ∷ [];
-  names = slice_set s.names to (ArrayOf (length s.buffers) ns (range_with_len 0 (element_count ns)));
-}
+-- the work of a statement that has no block and returns nothing
+abbrev pub work_of : Calls → {A : Type 0} → c.Core-F A → Work
+work_of calls (c.Word to op args at) = word_work op at
+work_of calls (c.Extent to of axis) = extent_work axis
+work_of calls (c.Get to of index at) = get_work at
+work_of calls (c.Put of index value at) = put_work at
+work_of calls (c.Pick to of subs at) = pick_work subs at
+work_of calls (c.Flip to of) = flip_work
+work_of calls (c.Alias to of) = move_work
+work_of calls (c.Fresh to dims fill at) = fresh_work fill at
+work_of calls (c.Map to op args at) = map_work op at
+work_of calls (c.Reduce to op of at) = reduce_work op at
+work_of calls (c.Store of value at) = store_work at
+work_of calls (c.Call to instance args) = calls instance
+work_of calls (c.If cond part other) = λ values buffers. Blocked buffers
+work_of calls (c.For var lo hi by at omp body) = λ values buffers. Blocked buffers
+work_of calls (c.Return values) = λ operands buffers. Blocked buffers
 
-abbrev pub mapped : Result (List ℕ) Fault → ℕ → MapOp → List Bound → Loc → State → State × End
-mapped (Ok ns) to op args at s = (with_new to ns (elements_of op (map (spread_to s.buffers ns) args)) s, GoesOn)
-mapped (Err fault) to op args at s = (s, Faulted fault at)
+-- an operand as a word
+abbrev pub word_at_operand : State → Oper → ℤ
+word_at_operand s x = word_of (operand s x)
 
--- one statement of the core
-abbrev pub statement : Core → State → State × End
-statement (core.Map to op args at) s =
-    mapped (broadcast_of (flat_map (λ x. extents_of (operand s x)) args)) to op (map (operand s) args) at s
-statement (core.Return values) s = (s, Returned (map (operand s) values))
+-- a loop's variable, bound to a number
+abbrev pub set_variable : ℕ → ℤ → State → State
+set_variable var z = bind var (WordOf z)
 
-abbrev pub then_do : State × End → (State → State × End) → State × End
-then_do (s, GoesOn) next = next s
-then_do (s, Returned values) next = (s, Returned values)
-then_do (s, Faulted fault at) next = (s, Faulted fault at)
+-- one statement, with their meanings in place of the statements of its blocks
+abbrev pub statement : Calls → c.Core-F (Meaning State) → Meaning State
+statement calls (c.If cond part other) s =
+    where_ready (ready s (cond ∷ []) []) (choice (word_at_operand s cond) (in_order part) (in_order other) s) s
+statement calls (c.For var lo hi by at omp body) s =
+    where_ready (ready s (lo ∷ hi ∷ by ∷ []) (var ∷ []))
+    (loop_over (set_variable var) (in_order body) at
+    (range_values (word_at_operand s lo) (word_at_operand s hi) (word_at_operand s by)) s) s
+statement calls (c.Return values) s = where_ready (ready s values []) (s, Returned (map (operand s) values)) s
+statement calls y s = step (reads_of y) (binds_of y) (work_of calls y) s
 
--- the statements of a block, one after another
-abbrev pub block : List Core → State → State × End
-block [] s = (s, GoesOn)
-block (first ∷ rest) s = then_do (statement first s) (block rest)
+abbrev pub meaning : Calls → Core → Meaning State
+meaning calls = fold-Core (Meaning State) (statement calls)
 
--- the state in which a call of an instance begins: its arguments are bound to its first names
-abbrev pub started : Instance → List Array → List Bound → State
-started instance arrays args = record {
-  buffers = map (λ a. a.words) arrays;
-  names = args ++ replicate (length instance.names - length args) Unbound;
-}
+abbrev pub block : Calls → List Core → Meaning State
+block calls body = in_order (map (meaning calls) body)
 
--- a shape with these extents
-abbrev pub shape_of : List ℕ → Shape
-shape_of ns = record { rank = length ns; extent = ns ++ replicate (4 - length ns) 1 }
+-- the state in which a call of an instance begins: its parameters are bound to the arguments
+abbrev pub entered : Instance → List Bound → List (List ℤ) → State
+entered f args buffers =
+    bind_all (range_with_len 0 (length f.params)) args
+    (record { buffers = buffers; names = replicate (length f.names) Unbound })
 
--- a returned operand as a value of its kind, its elements being read when the kernel returns
-abbrev pub value_of : List (List ℤ) → (Kind × ℕ) × Bound → Value
-value_of buffers (type, Unbound) = value.Word type.0 (pos 0)
-value_of buffers (type, WordOf z) = value.Word type.0 z
-value_of buffers (type, ArrayOf buffer ns places) =
-    value.Array (record { kind = type.0; shape = shape_of ns; words = elements_at buffers buffer places })
+-- what a call comes to, by the end of the called body
+abbrev pub done_of : State × End → Done
+done_of (s, GoesOn) = Made s.buffers []
+done_of (s, Returned values) = Made s.buffers values
+done_of (s, Faulted fault at) = Failed s.buffers fault at
+done_of (s, Stuck) = Blocked s.buffers
 
--- the outcome of a call, of whose buffers there are `count`
-abbrev pub finished : List (Kind × ℕ) → ℕ → State × End → Outcome
-finished rets count (s, GoesOn) = record { ret = []; buffers = take count s.buffers; fault = None }
-finished rets count (s, Returned values) = record {
-  ret = map (value_of s.buffers) (zip rets values);
-  buffers = take count s.buffers;
-  fault = None;
-}
-finished rets count (s, Faulted fault at) = record { ret = []; buffers = take count s.buffers; fault = Some (fault, at) }
+abbrev pub called : Calls → Option Instance → Work
+called calls None args buffers = Blocked buffers
+called calls (Some f) args buffers = done_of (block calls f.body (entered f args buffers))
 
--- what evaluating an instance on the buffers and arguments of a call gives
-abbrev pub outcome_of : Instance → List Array → List Bound → Outcome
-outcome_of instance arrays args = finished instance.rets (length arrays) (block instance.body (started instance arrays args))
+-- Calls within calls, to a depth. In a sound program each chain of calls ends, and every depth past the longest gives
+-- the same.
+abbrev pub calls_at : List Instance → ℕ → Calls
+calls_at instances zero = λ instance args buffers. Blocked buffers
+calls_at instances (suc depth) = λ instance. called (calls_at instances depth) (slice_get instances instance)

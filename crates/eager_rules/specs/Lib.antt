@@ -1,3 +1,12 @@
+pub mod Blocks
 pub mod Eager
 pub mod Fits
+pub mod Laws
+pub mod Outcome
+pub mod Running
+pub mod Small
+pub mod Sound
 pub mod State
+pub mod Statements
+pub mod Types
+pub mod Works

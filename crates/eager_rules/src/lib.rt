@@ -1,10 +1,25 @@
 //! The core of a module, and what evaluating it one whole-array operation after another gives.
 #![tactic(auto)]
 
+mod array_work;
 mod call;
+mod eval;
+mod evaluation;
+mod frame;
+mod fresh_work;
+mod laws;
+mod map_work;
 mod outcome;
 mod program;
+mod state;
+mod statement;
+mod subscripts;
+mod turns;
+mod work;
 
+pub use array_ops::{Fill, MapOp, RedOp};
 pub use call::{Arg, Call};
+pub use evaluation::eager;
+pub use laws::{operations_leave_buffers, stores_are_read, typed_has_small_powers};
 pub use outcome::{Counts, Outcome, Value};
-pub use program::{Core, Instance, MapOp, Oper, Program};
+pub use program::{Core, CoreSub, Instance, Oper, Program, WordOp};

@@ -8,8 +8,8 @@ pub enum Value {
     Array(Array),
 }
 
-/// What a call of a kernel leaves: its values, the final words of each buffer of the call, and the fault with its place if
-/// there was one. A call with a fault has no values.
+/// What a call of a kernel leaves: its values, the final words of each buffer of the call, and the fault with its
+/// place if there was one. A call with a fault has no values.
 #[derive(Debug, PartialEq, Eq, Drop)]
 pub struct Outcome {
     pub ret: Seq<Value>,

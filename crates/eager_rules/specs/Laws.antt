@@ -1,0 +1,42 @@
+-- Laws of stores, reads and operations, in NumPy's own words.
+use Rattle.std.specs.Prelude.{◌≡◌, ℕ, ◌<◌, ℤ, Bool, true, false, List, length, slice_index}
+use Rattle.array_ops.specs.Arrays.{elements_at, with_words, word_at, words_of}
+use Rattle.array_ops.specs.Elements.{Bound}
+use Rattle.eager_rules.specs.Eager.{Calls, work_of}
+use Rattle.eager_rules.specs.Works.{Done, Made, Failed, Blocked}
+use Rattle.eager_rules.specs.declared.program.Core.{Core}
+use Rattle.eager_rules.specs.declared.program.Core.TheOpen as c
+
+-- reading the places of a store gives what was stored
+abbrev pub ReadsWhatWasStored : List (List ℤ) → ℕ → List ℕ → List ℤ → Type 0
+ReadsWhatWasStored buffers buffer places words =
+    elements_at (with_words buffers buffer places words) buffer places ≡ words
+
+-- a place is none of these
+abbrev pub Misses : List ℕ → ℕ → Type 0
+Misses places place = (i : ℕ) → i < length places → slice_index places i ≡ place → ⊥
+
+-- a store leaves the words of other buffers, and of other places
+abbrev pub KeepsOthers : List (List ℤ) → ℕ → List ℕ → List ℤ → Type 0
+KeepsOthers buffers buffer places words =
+    (other place : ℕ) → (other ≡ buffer → Misses places place) →
+    word_at (with_words buffers buffer places words) other place ≡ word_at buffers other place
+
+-- the buffers after work
+abbrev pub buffers_after : Done → List (List ℤ)
+buffers_after (Made buffers values) = buffers
+buffers_after (Failed buffers fault at) = buffers
+buffers_after (Blocked buffers) = buffers
+
+-- whether a statement may change a buffer that stands
+abbrev pub may_change : c.Core-F Core → Bool
+may_change (c.Put of index value at) = true
+may_change (c.Store of value at) = true
+may_change (c.Call to instance args) = true
+may_change _ = false
+
+-- Work other than an element written, an array store and a call leaves each buffer that stood.
+abbrev pub LeavesBuffers : Calls → c.Core-F Core → Type 0
+LeavesBuffers calls y =
+    (values : List Bound) (buffers : List (List ℤ)) (number : ℕ) → number < length buffers →
+    words_of (buffers_after (work_of calls y values buffers)) number ≡ words_of buffers number

@@ -1,0 +1,36 @@
+// Laws of evaluation.
+ghost use Rattle.std.specs.Prelude.{◌≡◌, ◌<◌, ◌≤◌, false, length, true};
+ghost use Rattle.array_ops.specs.Arrays.{words_of};
+ghost use Rattle.eager_rules.specs.Eager.{Calls};
+ghost use Rattle.eager_rules.specs.Laws.{KeepsOthers, LeavesBuffers, ReadsWhatWasStored, may_change};
+ghost use Rattle.eager_rules.specs.declared.program.Core.TheOpen as c;
+ghost use Rattle.eager_rules.specs.declared.program.Core.{Core as AnyCore};
+ghost use Rattle.view_places.specs.View.{places};
+ghost use Rattle.eager_rules.specs.Small.{bodies_small};
+ghost use Rattle.eager_rules.specs.Sound.{IsTyped};
+
+use crate::program::Program;
+use krn_base::Seq;
+use view_places::View;
+
+/// A well-typed program has no exponent above 62, as `eager` asks for.
+pub fn typed_has_small_powers(program: &Program)
+    requires typed { IsTyped program.now }
+    ensures small { bodies_small program.now.instances ≡ true }
+{}
+
+/// A store and then a read of the same places gives the words that were stored, and each other word is as it was.
+pub fn stores_are_read(buffers: &[Seq<i64>], target: &View, words: &[i64])
+    requires there { target.now.buffer < length buffers.now }
+    requires whole { target.now.length ≤ length (words_of buffers.now target.now.buffer) }
+    requires count { length words.now ≡ length (places target.now) }
+    ensures stored { ReadsWhatWasStored buffers.now target.now.buffer (places target.now) words.now }
+    ensures others { KeepsOthers buffers.now target.now.buffer (places target.now) words.now }
+{
+    target.places_are_distinct();
+}
+
+/// Each statement but an element written, an array store and a call leaves the buffers that stood as they were.
+pub fn operations_leave_buffers()
+    ensures { (calls : Calls) (y : c.Core-F AnyCore) → may_change y ≡ false → LeavesBuffers calls y }
+{}

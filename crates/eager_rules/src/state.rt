@@ -1,0 +1,31 @@
+use array_ops::Operand;
+use krn_base::{Fault, Loc, Seq};
+
+/// The state of an evaluation: the buffers, and what each name of the running instance stands for.
+#[derive(Debug, Drop)]
+pub struct State {
+    pub buffers: Seq<Seq<i64>>,
+    pub names: Seq<Operand>,
+}
+
+/// How a statement ends.
+#[derive(Debug, Drop)]
+pub enum Ending {
+    /// The next statement follows.
+    GoesOn,
+    Returned(Seq<Operand>),
+    Faulted(Fault, Loc),
+    /// It reads what is unbound. A sound program never does.
+    Stuck,
+}
+
+/// What the work of a statement comes to.
+#[derive(Debug, Drop)]
+pub enum Worked {
+    Value(Operand),
+    Nothing,
+    Values(Seq<Operand>),
+    Failed(Fault, Loc),
+    /// It can't be done. In a sound program it always can.
+    Blocked,
+}
