@@ -1,0 +1,6 @@
+pub mod Rows
+pub mod Walk
+pub mod Forms
+pub mod Shapes
+pub mod Modules
+pub mod Weights

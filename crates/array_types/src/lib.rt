@@ -1,0 +1,16 @@
+//! Types of a module's terms, and its core: each kernel, and each function that one calls, once for each list of
+//! argument types.
+#![tactic(auto)]
+
+mod body;
+mod cores;
+mod instances;
+mod modules;
+mod rows;
+mod shape;
+mod state;
+mod steps;
+mod walk;
+
+pub use modules::typed_terms;
+pub use state::{Key, Range, Signature, State, Target, Ty, Value};
