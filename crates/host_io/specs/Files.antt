@@ -1,4 +1,4 @@
--- What names hold, and what a load leaves of it (this project).
+-- What names hold, what a load leaves of it, and what a store makes of it (this project).
 use Rattle.std.specs.Prelude.{◌≡◌, ℕ, ◌+◌, ◌<◌, Bool, true, false, List, length, take, Result, Ok, Err}
 use Rattle.host_io.specs.declared.files.LoadFault.{LoadFault}
 use Rattle.host_io.specs.declared.files.LoadFault.TheVariants.{Failed, TooLong, Memory}
@@ -26,6 +26,12 @@ abbrev pub IsCutContent : Held → ℕ → List ℕ → Type 0
 IsCutContent Untold most bytes = Unit {0}
 IsCutContent Missing most bytes = ⊥
 IsCutContent (Bytes file) most bytes = (most < length file) × (bytes ≡ take (most + 1) file)
+
+-- what a name holds once these bytes were stored under it, where it is told
+abbrev pub stored : Held → List ℕ → Held
+stored Untold bytes = Untold
+stored Missing bytes = Bytes bytes
+stored (Bytes file) bytes = Bytes bytes
 
 -- whether a load answered `Failed`
 abbrev pub has_failed : {A : Type 0} → Result A LoadFault → Bool

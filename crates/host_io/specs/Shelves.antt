@@ -1,5 +1,6 @@
 -- Files in memory (this project).
-use Rattle.std.specs.Prelude.{ℕ, max, Bool, true, not, ◌&&◌, List, [], ◌∷◌, map, if◌then◌else◌, vec_len}
+use Rattle.std.specs.Prelude.{ℕ, max, nat_le, Bool, true, false, not, ◌&&◌, Option, Some, None}
+use Rattle.std.specs.Prelude.{List, [], ◌∷◌, map, if◌then◌else◌, vec_len}
 use Rattle.std.specs.List.{list_any}
 use Rattle.std.specs.Str.{bytes_eq}
 use Rattle.host_io.specs.declared.shelf.Shelf.{Shelf}
@@ -15,7 +16,14 @@ pub record File : Type 0 where
 
 -- the file that a slot asks for
 abbrev pub slot_file : Slot → File
-slot_file slot = record { name = slot.name; bytes = slot.bytes.items; there = slot.there; limit = max slot.room (vec_len slot.bytes) }
+slot_file slot =
+    record {
+      name = slot.name;
+      bytes = slot.bytes.items;
+      there = slot.there;
+      limit =
+          max slot.room (vec_len slot.bytes);
+    }
 
 -- the file that a shelf keeps
 abbrev pub shelf_file : Shelf → File
@@ -44,3 +52,17 @@ content file = (if file.there then Bytes file.bytes else Missing)
 abbrev pub held_in : List File → List ℕ → Held
 held_in [] name = Missing
 held_in (file ∷ rest) name = (if bytes_eq file.name name then content file else held_in rest name)
+
+-- each file's name, and how many bytes it may hold, in order
+abbrev pub rooms : List File → List (List ℕ × ℕ)
+rooms files = map (λ file. (file.name, file.limit)) files
+
+-- how many bytes a name may hold, if there is a file of that name
+abbrev pub room_in : List (List ℕ × ℕ) → List ℕ → Option ℕ
+room_in [] name = None
+room_in (room ∷ rest) name = (if bytes_eq room.0 name then Some room.1 else room_in rest name)
+
+-- whether so many bytes may be held
+abbrev pub can_hold : Option ℕ → ℕ → Bool
+can_hold None count = false
+can_hold (Some most) count = nat_le count most

@@ -1,9 +1,10 @@
-ghost use Rattle.std.specs.Prelude.{◌≡◌};
+ghost use Rattle.std.specs.Prelude.{◌≡◌, ◌≤◌};
 ghost use Rattle.host_io.specs.Counts.{raised, is_to_fail};
 
 /// The next number. The greatest one is followed by itself.
 pub fn raise(number: u64) -> u64
-    ensures { result ≡ raised number }
+    ensures next { result ≡ raised number }
+    ensures grows { number ≤ result }
 {
     number.saturating_add(1)
 }

@@ -1,6 +1,6 @@
-ghost use Rattle.std.specs.Prelude.{◌≡◌, ℕ, ◌+◌, ◌<◌, ◌≤◌, List, length, IsErr, IsErrOf, OnOk};
+ghost use Rattle.std.specs.Prelude.{◌≡◌, ◌≢◌, ℕ, ◌+◌, ◌<◌, ◌≤◌, List, length, IsErr, IsErrOf, OnOk, OnErr};
 ghost use Rattle.host_io.specs.Counts.{Rose};
-ghost use Rattle.host_io.specs.Files.{Held, Bytes, IsContent, IsCutContent};
+ghost use Rattle.host_io.specs.Files.{Held, Bytes, IsContent, IsCutContent, stored};
 
 use std::alloc::AllocError;
 use thiserror::Error;
@@ -27,6 +27,14 @@ impl From<AllocError> for LoadFault {
     fn from(_error: AllocError) -> LoadFault {
         LoadFault::Memory
     }
+}
+
+/// Why a file was not stored.
+#[derive(Clone, Copy, Debug, PartialEq, Eq, Error)]
+pub enum StoreFault {
+    /// The file could not be made, or not all bytes could be written.
+    #[error("the file could not be stored")]
+    Failed,
 }
 
 /// Files under names.
@@ -58,4 +66,20 @@ pub trait Files {
         ensures past { IsErrOf result LoadFault.TooLong → length into.new.items ≡ most + 1 }
         ensures long { (file : List ℕ) → held self.old name.now ≡ Bytes file → most < length file →
             IsErr result };
+
+    /// Makes a file of this name that has these bytes, in place of what the name held. After an error the name holds
+    /// anything.
+    fn store(&mut self, name: &str, bytes: &[u8]) -> Result<(), StoreFault>
+        // No count falls, and what every other name holds stays.
+        ensures count { faults self.old ≤ faults self.new }
+        ensures others { (other : List ℕ) → other ≢ name.now → held self.new other ≡ held self.old other }
+
+        // The name holds the bytes.
+        ensures ok { OnOk result (held self.new name.now ≡ stored (held self.old name.now) bytes.now) }
+
+        // A store fails only where the count rose.
+        ensures failed { OnErr result (Rose (faults self.old) (faults self.new)) };
 }
+
+#[cfg(test)]
+mod tests;

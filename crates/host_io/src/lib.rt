@@ -1,7 +1,8 @@
-//! The program's view of the outside: files to load, sinks to put bytes into and the gate that pieces pass,
-//! as traits with their contracts, over memory and over the system.
+//! The program's view of the outside: files to load and store, sinks to put bytes into and the gate that pieces
+//! pass, as traits with their contracts, over memory and over the system.
 #![tactic(auto)]
 
+mod attempt;
 mod counts;
 mod files;
 mod gate;
@@ -9,12 +10,16 @@ mod mem_files;
 mod mem_sink;
 mod os_files;
 mod os_sink;
+mod reading;
 mod shelf;
 mod shelves;
 mod sink;
 mod slot;
+#[cfg(test)]
+mod streams;
+mod writing;
 
-pub use files::{Files, LoadFault};
+pub use files::{Files, LoadFault, StoreFault};
 pub use gate::{Gate, OpenGate};
 pub use mem_files::MemFiles;
 pub use mem_sink::MemSink;

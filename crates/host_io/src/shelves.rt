@@ -1,6 +1,9 @@
-ghost use Rattle.std.specs.Prelude.{◌≡◌, ◌+◌, ◌<◌, ◌≤◌, false, length, take, min, vec_capacity, IfOk, OnOk, OnErr, IsErrOf, MatchOption};
-ghost use Rattle.host_io.specs.Files.{Missing, Bytes, has_failed};
+ghost use Rattle.std.specs.Prelude.{◌≡◌, ◌≢◌, ℕ, ◌+◌, ◌<◌, ◌≤◌, false, List, length, take, min, position, vec_capacity};
+ghost use Rattle.std.specs.Prelude.{IsTrue, IfOk, OnOk, OnErr, IsErrOf, MatchOption};
+ghost use Rattle.std.specs.Str.{bytes_eq};
+ghost use Rattle.host_io.specs.Files.{Missing, Bytes, stored, has_failed};
 ghost use Rattle.host_io.specs.Shelves.{held_in, slot_file, shelf_file, slot_files, shelf_files};
+ghost use Rattle.host_io.specs.Shelves.{rooms, room_in, can_hold};
 
 use crate::files::LoadFault;
 use crate::shelf::Shelf;
@@ -54,6 +57,31 @@ pub fn file_at<'a>(shelves: &'a [Shelf], name: &str) -> Option<&'a [u8]>
         }
     }
     None
+}
+
+/// The place of the file of this name, if there is one.
+fn place_of(shelves: &[Shelf], name: &str) -> Option<usize>
+    ensures { result ≡ position (λ shelf. bytes_eq shelf.name name.now) shelves.now }
+{
+    shelves.iter().position(|shelf| shelf.has_name(name))
+}
+
+/// Puts the bytes in place of what the file of this name holds, if it may hold so many, and says whether it may.
+/// Nothing changes where it may not, or where there is no file of this name.
+pub fn store_bytes(shelves: &mut [Shelf], name: &str, bytes: &[u8]) -> bool
+    ensures fits { result ≡ can_hold (room_in (rooms (shelf_files shelves.old)) name.now) (length bytes.now) }
+    ensures stored { IsTrue result → held_in (shelf_files shelves.new) name.now ≡ Bytes bytes.now }
+    ensures replaced { IsTrue result → held_in (shelf_files shelves.new) name.now
+        ≡ stored (held_in (shelf_files shelves.old) name.now) bytes.now }
+    ensures others { (other : List ℕ) → other ≢ name.now →
+        held_in (shelf_files shelves.new) other ≡ held_in (shelf_files shelves.old) other }
+    ensures unchanged { result ≡ false → shelf_files shelves.new ≡ shelf_files shelves.old }
+    ensures rooms { rooms (shelf_files shelves.new) ≡ rooms (shelf_files shelves.old) }
+{
+    match place_of(shelves, name) {
+        Some(place) => shelves[place].fill(bytes),
+        None => false,
+    }
 }
 
 /// Puts these bytes alone into `into`.

@@ -30,3 +30,16 @@ pub trait Sink {
         ensures part { OnErr result
             ((n : ℕ) × (written self.new ≡ appended (written self.old) (take n bytes.now))) };
 }
+
+#[cfg(test)]
+mod tests {
+    use super::*;
+    use std::test::Fail;
+
+    #[test]
+    fn fault_has_a_text(rt: HostRuntime) -> Result<(), Fail> {
+        let fault = PutFault::Failed.to_string(rt.alloc())?;
+        assert_eq!(rt; fault.as_str(), "the bytes could not be written");
+        Ok(())
+    }
+}

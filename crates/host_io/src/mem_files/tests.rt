@@ -14,7 +14,7 @@ fn load_there(
     most: usize,
     into: &mut Vec<u8>,
 ) -> Result<(), LoadFault>
-    requires none { files.old.fails.items ≡ [] }
+    requires none { files.old.fails ≡ [] }
     requires there { is_missing (mem_held files.old name.now) ≡ false }
     ensures { files.new.faults ≡ files.old.faults }
 {
@@ -28,7 +28,7 @@ fn make_slot(alloc: Global, name: &str, bytes: &str, there: bool) -> Result<Slot
         name: Seq::from_vec(Vec::from_slice(alloc, name.as_bytes())?),
         bytes: Vec::from_slice(alloc, bytes.as_bytes())?,
         there,
-        room: 2,
+        room: 7,
     })
 }
 
@@ -75,5 +75,65 @@ fn loads_in_order(rt: HostRuntime) -> Result<(), Fail> {
             "{name}"
         );
     }
+    Ok(())
+}
+
+// Each row: the name and the bytes to store, whether they are stored, and what the names `a`, `gone` and the empty one
+// then hold. The third call is to fail.
+#[test]
+fn stores_in_order(rt: HostRuntime) -> Result<(), Fail> {
+    let rows = [
+        ("a", "", true, Some(""), None, Some("")),
+        ("gone", "1234567", true, Some(""), Some("1234567"), Some("")),
+        ("gone", "x", false, Some(""), Some("1234567"), Some("")),
+        (
+            "gone",
+            "12345678",
+            false,
+            Some(""),
+            Some("1234567"),
+            Some(""),
+        ),
+        ("none", "x", false, Some(""), Some("1234567"), Some("")),
+        ("gone", "y", true, Some(""), Some("y"), Some("")),
+        ("", "abc", true, Some(""), Some("y"), Some("abc")),
+    ];
+    let mut files = make_files(rt.alloc())?;
+    for (name, text, is_stored, first, second, third) in rows {
+        assert_eq!(rt;
+            files.store(name, text.as_bytes()).is_ok(),
+            is_stored,
+            "{text} as {name}"
+        );
+        for (other, bytes) in [("a", first), ("gone", second), ("none", None), ("", third)] {
+            assert_eq!(rt;
+                files.held(other),
+                bytes.map(|held| held.as_bytes()),
+                "{other} after {text} as {name}"
+            );
+        }
+    }
+    assert_eq!(rt; files.faults, 3);
+    Ok(())
+}
+
+// A load and a store are numbered together, and large bytes pass.
+#[test]
+fn stores_large_files(rt: HostRuntime) -> Result<(), Fail> {
+    let alloc = rt.alloc();
+    let mut slot = make_slot(alloc, "large", "", false)?;
+    slot.room = 100_000;
+    let slots = vec![in alloc; slot]?;
+    let mut files = MemFiles::new(alloc, slots, Vec::from_slice(alloc, &[1])?)?;
+    let large = vec![in alloc; 7u8; 100_000]?;
+    let mut into = Vec::new(alloc);
+    assert_eq!(rt; files.load("large", 9, &mut into), Err(LoadFault::Failed));
+    assert_eq!(rt;
+        files.store("large", large.as_slice()),
+        Err(StoreFault::Failed)
+    );
+    assert_eq!(rt; files.store("large", large.as_slice()), Ok(()));
+    assert_eq!(rt; files.load("large", 100_000, &mut into), Ok(()));
+    assert!(rt; into.as_slice() == large.as_slice() && files.faults == 2);
     Ok(())
 }

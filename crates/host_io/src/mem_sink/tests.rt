@@ -1,12 +1,13 @@
-ghost use Rattle.std.specs.Prelude.{◌≡◌, ◌+◌, ◌≤◌, [], length, vec_len, IsOk};
+ghost use Rattle.std.specs.Prelude.{◌≡◌, ◌≤◌, [], length, IsOk};
+ghost use Rattle.host_io.specs.MemSink.{left_on};
 
 use super::*;
 use std::test::Fail;
 
 // Over a sink without calls that are to fail, a piece that fits is written and counts no fault.
 fn put_fitting(sink: &mut MemSink, bytes: &[u8]) -> Result<(), PutFault>
-    requires none { sink.old.fails.items ≡ [] }
-    requires room { vec_len sink.old.bytes + length bytes.now ≤ sink.old.room }
+    requires none { sink.old.fails ≡ [] }
+    requires room { length bytes.now ≤ left_on sink.old }
     ensures done { IsOk result }
     ensures uncounted { sink.new.faults ≡ sink.old.faults }
 {

@@ -7,7 +7,8 @@ use Rattle.host_io.proofs.mem_files.MemFiles.new.Goals as goal
 
 pub returns-clause-slots : goal.returns-clause-slots
 returns-clause-slots c =
-    λ k slot here. subst (λ (files : List File). held_in files slot.name ≡ content (slot_file slot)) (sym c.in_ok-shelve_all.ensures)
+    λ k slot here. subst (λ (files : List File). held_in files slot.name ≡ content (slot_file slot))
+    (sym c.in_ok-shelve_all.ensures)
     (held_in-slot c.args.slots.items k slot c.requires here)
 
 pub returns-clause-others : goal.returns-clause-others
