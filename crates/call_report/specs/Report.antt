@@ -1,5 +1,5 @@
--- The report of a finished call, which the command prints. Its lines are this project's own; an element of a kind of truth
--- values, and a shape, are written as Python prints a bool and a tuple.
+-- The report of a finished call, which the command prints. Its lines are this project's own; an element of a kind of
+-- truth values, and a shape, are written as Python prints a bool and a tuple.
 use Rattle.std.specs.Prelude.{ℕ, ℤ, pos, List, [], ◌∷◌, ◌++◌, map, codes, Option, Some, None, if◌then◌else◌}
 use Rattle.std.specs.Fmt.{decimal, signed_decimal}
 use Rattle.std.specs.List.{flat_map, zip}
@@ -49,7 +49,8 @@ return_line value = codes "return " ++ value_text value
 
 -- a fault and its place, as in `ValueError 3:14`
 abbrev pub fault_line : Fault × Loc → List ℕ
-fault_line (fault, at) = codes "fault " ++ (fault_name fault ++ (codes " " ++ (decimal at.line ++ (codes ":" ++ decimal at.col))))
+fault_line (fault, at) = codes "fault " ++
+    (fault_name fault ++ (codes " " ++ (decimal at.line ++ (codes ":" ++ decimal at.col))))
 
 -- how the call ended: its fault, or else a line for each value
 abbrev pub ending_lines : Option (Fault × Loc) → List Value → List (List ℕ)
@@ -59,7 +60,8 @@ ending_lines None (first ∷ rest) = map return_line (first ∷ rest)
 
 -- a buffer of the call in the shape in which it was given, with the words that it has now
 abbrev pub buffer_line : BufferHead × List ℤ → List ℕ
-buffer_line (head, words) = codes "buffer " ++ (head.name ++ (codes " " ++ array_text head.kind (extents head.shape) words))
+buffer_line (head, words) = codes "buffer " ++
+    (head.name ++ (codes " " ++ array_text head.kind (extents head.shape) words))
 
 abbrev pub counts_line : Counts → List ℕ
 counts_line counts =

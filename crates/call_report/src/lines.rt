@@ -1,7 +1,8 @@
 ghost use Rattle.std.specs.Prelude.{◌≡◌, ◌++◌, OnOk, codes, map};
 ghost use Rattle.std.specs.Fmt.{decimal};
 ghost use Rattle.std.specs.List.{zip};
-ghost use Rattle.call_report.specs.Report.{value_text, return_line, fault_line, ending_lines, buffer_line, counts_line, counts_lines, lines_text};
+ghost use Rattle.call_report.specs.Report.{value_text, return_line, fault_line, ending_lines, buffer_line, counts_line};
+ghost use Rattle.call_report.specs.Report.{counts_lines, lines_text};
 
 use crate::elements::{append_array, append_bytes, append_element, append_kind, append_number};
 use crate::head::BufferHead;
@@ -63,7 +64,8 @@ fn append_fault_line(
 
 /// Appends the lines that say how the call ended.
 pub fn append_ending(alloc: Global, out: &mut Vec<u8>, outcome: &Outcome) -> Result<(), NoMemory>
-    ensures { OnOk result (out.new.items ≡ out.old.items ++ lines_text (ending_lines outcome.now.fault outcome.now.ret)) }
+    ensures { OnOk result (out.new.items ≡
+        out.old.items ++ lines_text (ending_lines outcome.now.fault outcome.now.ret)) }
 {
     match outcome.fault {
         Some((fault, at)) => append_fault_line(alloc, out, fault, at),

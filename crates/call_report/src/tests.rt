@@ -96,7 +96,8 @@ fn prints_reports(rt: HostRuntime) -> Result<(), Fail> {
             fault: Some((Fault::ValueError, at(3, 14))),
             buffers: &[("A", row(3), &[1, 2, 3]), ("B", row(2), &[1, 2])],
             counts: counted(0, 0, 0, 0),
-            text: "fault ValueError 3:14\nbuffer A int64 (3,) 1 2 3\nbuffer B int64 (2,) 1 2\ncounts nests 0 temps 0 parallel 0 serial 0\n",
+            text: "fault ValueError 3:14\nbuffer A int64 (3,) 1 2 3\nbuffer B int64 (2,) 1 2\ncounts nests 0 temps 0 p\
+                arallel 0 serial 0\n",
         },
         Case {
             values: &[],
@@ -128,7 +129,8 @@ fn prints_reports(rt: HostRuntime) -> Result<(), Fail> {
             fault: None,
             buffers: &[("A", row(0), &[])],
             counts: counted(3, 0, 0, 0),
-            text: "return int64 0\nreturn bool False\nreturn bool True\nbuffer A int64 (0,)\ncounts nests 3 temps 0 parallel 0 serial 0\n",
+            text: "return int64 0\nreturn bool False\nreturn bool True\nbuffer A int64 (0,)\ncounts nests 3 temps 0 pa\
+                rallel 0 serial 0\n",
         },
         Case {
             values: &[Given::Array(
@@ -152,7 +154,8 @@ fn prints_reports(rt: HostRuntime) -> Result<(), Fail> {
                 ("B", row(3), &[1, 2, 3]),
             ],
             counts: counted(1, 0, 0, 0),
-            text: "return int64 (2, 3) 1 2 3 2 4 6\nbuffer A int64 (2, 1) 1 2\nbuffer B int64 (3,) 1 2 3\ncounts nests 1 temps 0 parallel 0 serial 0\n",
+            text: "return int64 (2, 3) 1 2 3 2 4 6\nbuffer A int64 (2, 1) 1 2\nbuffer B int64 (3,) 1 2 3\ncounts nests\
+                \x201 temps 0 parallel 0 serial 0\n",
         },
         Case {
             values: &[Given::Array(

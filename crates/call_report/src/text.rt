@@ -9,8 +9,8 @@ use std::alloc::Global;
 
 /// The report of a finished call, as ASCII lines that each end with a line feed (the names of the buffers as they are):
 /// one line for each returned value, `return none` where there is none, or in their place the fault with its place; a
-/// line for each buffer in order; a line of counts where they are given. `heads` names the buffers of `outcome` in order. The
-/// one error is want of memory.
+/// line for each buffer in order; a line of counts where they are given. `heads` names the buffers of `outcome` in
+/// order. The one error is want of memory.
 pub fn report(
     alloc: Global,
     heads: &[BufferHead],
