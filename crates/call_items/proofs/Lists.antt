@@ -1,9 +1,11 @@
 -- Lemmas on lists that the toolchain's library lacks.
-use Rattle.std.proofs.Common.{◌≡◌, ◌+◌, ◌<◌, Bool, true, false, not, ◌||◌, cond, List, [], ◌∷◌, map, length, refl, ap, arith, Some, None}
+use Rattle.std.proofs.Common.{◌≡◌, ◌+◌, ◌<◌, Bool, true, false, not, ◌||◌, cond, List, [], ◌∷◌, map, length, refl, ap}
+use Rattle.std.proofs.Common.{arith, Some, None}
 use Rattle.std.proofs.lemmas.Bool.{cond-true, lt-ltb, false_from_ne_true}
 use Rattle.std.specs.List.{list_any, position, position_or_len}
 
-pub any_in_map : {X Y : Type 0} (p : Y → Bool) (f : X → Y) (xs : List X) → list_any p (map f xs) ≡ list_any (λ x. p (f x)) xs
+pub any_in_map : {X Y : Type 0} (p : Y → Bool) (f : X → Y) (xs : List X) →
+    list_any p (map f xs) ≡ list_any (λ x. p (f x)) xs
 any_in_map p f [] = refl
 any_in_map p f (x ∷ xs) = ap (λ b. p (f x) || b) (any_in_map p f xs)
 
@@ -16,7 +18,8 @@ within p (x ∷ xs) e =
       | false ↦ λ e'. omega (arith, within p xs e')
     ]) e
 
-pub has_place : {X : Type 0} (p : X → Bool) (xs : List X) → list_any p xs ≡ true → position p xs ≡ Some (position_or_len p xs)
+pub has_place : {X : Type 0} (p : X → Bool) (xs : List X) → list_any p xs ≡ true →
+    position p xs ≡ Some (position_or_len p xs)
 has_place p xs e = cond-true _ _ _ (lt-ltb (position_or_len p xs) (length xs) (within p xs e))
 
 pub none_passes : {X : Type 0} (p : X → Bool) (xs : List X) → position p xs ≡ None → list_any p xs ≡ false

@@ -1,14 +1,18 @@
--- The binding of a call's items to a kernel. Its tests stand in their order, each over all items before the next one begins;
+-- The binding of a call's items to a kernel. Its tests stand in their order, each over all items before the next one
+-- begins;
 -- the order and the limit of 16 buffers are this project's own.
-use Rattle.std.specs.Prelude.{ℕ, ◌+◌, ◌==◌, nat_le, ◌≤◌, ◌^◌, Bool, true, false, not, ◌&&◌, ◌||◌, if◌then◌else◌, List, [], ◌∷◌, ◌++◌, map, length, slice_index_or, Option, Some, None, option_map, Result, Ok, Err, ℤ, bytes_eq}
+use Rattle.std.specs.Prelude.{ℕ, ◌+◌, ◌==◌, nat_le, ◌≤◌, ◌^◌, Bool, true, false, not, ◌&&◌, ◌||◌, if◌then◌else◌, List}
+use Rattle.std.specs.Prelude.{[], ◌∷◌, ◌++◌, map, length, slice_index_or, Option, Some, None, option_map, Result, Ok}
+use Rattle.std.specs.Prelude.{Err, ℤ, bytes_eq}
 use Rattle.std.specs.List.{list_any, position, find, filter_map, count_by, range_with_len}
 use Rattle.std.specs.Option.{unwrap_or, is_some, option_and_then}
 use Rattle.krn_base.specs.declared.kind.Kind.TheVariants.{Int64, Bool as BoolKind}
 use Rattle.krn_base.specs.declared.kind.ParamType.{ParamType}
 use Rattle.krn_base.specs.declared.kind.ParamType.TheVariants.{Scalar, Flat, Strided}
 use Rattle.view_places.specs.declared.shape.Array.{Array}
-use Rattle.eager_rules.specs.State.{Bound, ArrayOf, bound_to}
-use Rattle.eager_rules.specs.Eager.{shape_of}
+use Rattle.array_ops.specs.Elements.{Bound, ArrayOf}
+use Rattle.eager_rules.specs.Outcome.{shape_with}
+use Rattle.eager_rules.specs.State.{bound_to}
 use Rattle.eager_rules.specs.declared.call.Arg.{Arg}
 use Rattle.eager_rules.specs.declared.call.Arg.TheVariants as arg
 use Rattle.call_items.specs.Reading.{read_from}
@@ -34,7 +38,8 @@ is_argument_for parameter (Argument own buffer) = bytes_eq own parameter
 abbrev pub numbered : Option ℕ → Option ℕ
 numbered at = option_map (λ i. i + 1) at
 
--- Test 2. An item behind others is one too many: it is the second for its buffer or parameter, or gives the 17th buffer.
+-- Test 2. An item behind others is one too many: it is the second for its buffer or parameter, or gives the 17th
+-- buffer.
 abbrev pub is_surplus : List Item → Item → Bool
 is_surplus before (Buffer name words) = list_any (is_buffer_named name) before || nat_le 16 (count_by is_buffer before)
 is_surplus before (Argument parameter buffer) = list_any (is_argument_for parameter) before
@@ -55,7 +60,7 @@ abbrev pub buffer_names : List Item → List (List ℕ)
 buffer_names items = filter_map name_of items
 
 abbrev pub row : List ℤ → Array
-row words = record { kind = Int64; shape = shape_of (length words ∷ []); words = words }
+row words = record { kind = Int64; shape = shape_with (length words ∷ []); words = words }
 
 abbrev pub array_of : Item → Option Array
 array_of (Buffer name words) = Some (row words)
@@ -114,7 +119,8 @@ is_missing items param = not (list_any (is_argument_for param.0) items)
 abbrev pub missing : List (List ℕ × ParamType) → List Item → Option ℕ
 missing params items = if list_any (is_missing items) params then Some 0 else None
 
--- Test 9. No kernel of the name fits: each of its parameters has an item, and takes an int64 array of rank 1, which every
+-- Test 9. No kernel of the name fits: each of its parameters has an item, and takes an int64 array of rank 1, which
+-- every
 -- argument is. Such an argument is a whole buffer, so its places are consecutive and rising.
 abbrev pub takes_row : ParamType → Bool
 takes_row (Scalar kind) = false
@@ -141,7 +147,8 @@ first_answer [] = None
 first_answer (Some n ∷ rest) = Some n
 first_answer (None ∷ rest) = first_answer rest
 
--- The tests 4 to 9 in their order. The tests 7, of array files, and 8, of views, stand before the last one; there are no
+-- The tests 4 to 9 in their order. The tests 7, of array files, and 8, of views, stand before the last one; there are
+-- no
 -- such items yet.
 abbrev pub kernel_tests : List KernelHead → List ℕ → List Item → List (Option ℕ)
 kernel_tests kernels name items =
@@ -158,7 +165,8 @@ kernel_refusal kernels name items = first_answer (kernel_tests kernels name item
 abbrev pub refusal : List KernelHead → List ℕ → List Item → Option ℕ
 refusal kernels name items = first_answer (surplus items ∷ unbound items ∷ kernel_tests kernels name items)
 
--- a bound call: the number of the kernel in the list, the buffers' names and what they hold in word order, what the kernel's
+-- a bound call: the number of the kernel in the list, the buffers' names and what they hold in word order, what the
+-- kernel's
 -- parameters stand for, and how many words each view says its buffer has
 pub record BoundMeaning : Type 0 where
   pub kernel : ℕ
@@ -173,12 +181,17 @@ words_in arrays number = length (slice_index_or (map (λ a. a.words) arrays) num
 
 -- the whole of the buffer with this number
 abbrev pub whole : List Array → ℕ → Bound
-whole arrays number = ArrayOf number (words_in arrays number ∷ []) (range_with_len 0 (words_in arrays number))
+whole arrays number = ArrayOf (record {
+  buffer = number;
+  extents = words_in arrays number ∷ [];
+  places = range_with_len 0 (words_in arrays number);
+})
 
 -- the number of the buffer that is passed to a parameter
 abbrev pub buffer_for : List (List ℕ × List ℕ) → List (List ℕ) → List ℕ → Option ℕ
 buffer_for passed names parameter =
-    option_and_then (λ argument. position (bytes_eq argument.1) names) (find (λ argument. bytes_eq argument.0 parameter) passed)
+    option_and_then (λ argument. position (bytes_eq argument.1) names) (find
+    (λ argument. bytes_eq argument.0 parameter) passed)
 
 -- what a parameter stands for, and how many words its buffer has
 abbrev pub given : List (List ℕ × List ℕ) → List (List ℕ) → List Array → List ℕ × ParamType → Bound
@@ -213,7 +226,8 @@ checked kernels name (Err n) = Err n
 checked kernels name (Ok items) =
     unless (refusal kernels name items) (bound_at kernels items (unwrap_or (fitting kernels name items) 0))
 
--- A call of the kernel of this name with the items of these texts, or the number of the refused one: from 1, and 0 where the
+-- A call of the kernel of this name with the items of these texts, or the number of the refused one: from 1, and 0
+-- where the
 -- kernel itself is at fault.
 abbrev pub bind : List KernelHead → List ℕ → List (List ℕ) → Result BoundMeaning ℕ
 bind kernels name texts = checked kernels name (read_from 1 texts)

@@ -1,6 +1,8 @@
--- Integers in the words of a call, and rows of them between commas, as lists of bytes. An integer is written as Python prints
+-- Integers in the words of a call, and rows of them between commas, as lists of bytes. An integer is written as
+-- Python prints
 -- one; that it lies within 64 bits, and that `-0` is one, are this project's own.
-use Rattle.std.specs.Prelude.{ℕ, ◌==◌, Bool, false, not, ◌&&◌, if◌then◌else◌, List, [], ◌∷◌, Option, Some, None, option_map, ℤ, pos, negsuc, nat_lt, ◌^◌}
+use Rattle.std.specs.Prelude.{ℕ, ◌==◌, Bool, false, not, ◌&&◌, if◌then◌else◌, List, [], ◌∷◌, Option, Some, None}
+use Rattle.std.specs.Prelude.{option_map, ℤ, pos, negsuc, nat_lt, ◌^◌}
 use Rattle.std.specs.Char.{is_ascii_digit}
 use Rattle.std.specs.List.{slice_split}
 use Rattle.std.specs.Str.{all_ascii_digits}
@@ -28,7 +30,8 @@ is_word (negsuc n) = nat_lt n (2 ^ 63)
 
 -- the number that a text is the integer of
 abbrev pub integer : List ℕ → Option ℤ
-integer text = if is_signed_decimal text && is_word (signed_digits_value 10 text) then Some (signed_digits_value 10 text) else None
+integer text = if is_signed_decimal text && is_word (signed_digits_value 10 text) then Some
+    (signed_digits_value 10 text) else None
 
 -- a number in front of numbers, where there are such
 abbrev pub onto : Option ℤ → Option (List ℤ) → Option (List ℤ)

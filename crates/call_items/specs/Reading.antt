@@ -1,6 +1,9 @@
--- What one item of a call says. `buf:NAME=` and integers make a buffer, `NAME=@NAME` passes a buffer to a parameter. These
--- forms and the limit of 2^22 elements are this project's own; a name is an ASCII identifier of Python, and may be a keyword.
-use Rattle.std.specs.Prelude.{ℕ, ◌+◌, ◌^◌, ◌≤◌, ◌==◌, nat_le, Bool, false, not, ◌&&◌, ◌||◌, if◌then◌else◌, List, [], ◌∷◌, length, take, drop, codes, Option, Some, None, option_map, Result, Ok, Err, ℤ}
+-- What one item of a call says. `buf:NAME=` and integers make a buffer, `NAME=@NAME` passes a buffer to a parameter.
+-- These
+-- forms and the limit of 2^22 elements are this project's own; a name is an ASCII identifier of Python, and may be a
+-- keyword.
+use Rattle.std.specs.Prelude.{ℕ, ◌+◌, ◌^◌, ◌≤◌, ◌==◌, nat_le, Bool, false, not, ◌&&◌, ◌||◌, if◌then◌else◌, List, []}
+use Rattle.std.specs.Prelude.{◌∷◌, length, take, drop, codes, Option, Some, None, option_map, Result, Ok, Err, ℤ}
 use Rattle.std.specs.Char.{is_ascii_alphabetic, is_ascii_alphanumeric}
 use Rattle.std.specs.List.{list_any, position}
 use Rattle.std.specs.Option.{option_and_then}
@@ -34,12 +37,14 @@ after (p ∷ prefix) (c ∷ text) = if c == p then after prefix text else None
 -- the buffer of this name and these words
 abbrev pub buffer_item : List ℕ → Option (List ℤ) → Option Item
 buffer_item name None = None
-buffer_item name (Some words) = if is_name name && nat_le (length words) (2 ^ 22) then Some (Buffer name words) else None
+buffer_item name (Some words) = if is_name name && nat_le (length words) (2 ^ 22) then Some
+    (Buffer name words) else None
 
 -- the argument for this parameter
 abbrev pub argument_item : List ℕ → Option (List ℕ) → Option Item
 argument_item parameter None = None
-argument_item parameter (Some buffer) = if is_name parameter && is_name buffer then Some (Argument parameter buffer) else None
+argument_item parameter (Some buffer) = if is_name parameter && is_name buffer then Some
+    (Argument parameter buffer) else None
 
 -- an item by what follows `buf:` on the left of its `=`, and by both sides
 abbrev pub by_sides : Option (List ℕ) → List ℕ → List ℕ → Option Item

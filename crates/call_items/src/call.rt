@@ -2,8 +2,9 @@ ghost use Rattle.std.specs.Prelude.{◌≡◌, ◌<◌, ◌≤◌, ◌^◌, ◌�
 ghost use Rattle.std.specs.List.{All, find, position, range_with_len};
 ghost use Rattle.std.specs.Option.{unwrap_or};
 ghost use Rattle.std.specs.String.{string_bytes};
-ghost use Rattle.eager_rules.specs.Eager.{shape_of};
-ghost use Rattle.eager_rules.specs.State.{bound_to, ArrayOf};
+ghost use Rattle.array_ops.specs.Elements.{ArrayOf};
+ghost use Rattle.eager_rules.specs.Outcome.{shape_with};
+ghost use Rattle.eager_rules.specs.State.{bound_to};
 ghost use Rattle.call_items.specs.Binding as spec;
 ghost use Rattle.call_items.specs.Fitting.{IsFitting};
 ghost use Rattle.call_items.specs.Reading.{IsShort};
@@ -27,7 +28,7 @@ struct Parts {
 
 /// The shape of a row.
 fn row_shape(length: u32) -> Shape
-    ensures { result ≡ shape_of (length ∷ []) }
+    ensures { result ≡ shape_with (length ∷ []) }
 {
     Shape {
         rank: 1,
@@ -51,7 +52,8 @@ fn row(words: Seq<i64>) -> Array
 /// The items' parts. Each buffer's words are moved.
 fn take_apart(alloc: Global, items: Seq<Item>) -> Result<Parts, AllocError>
     requires { All IsShort items }
-    ensures parts { IfOk result (λ parts. parts ≡ record { names = spec.buffer_names items; arrays = spec.arrays items; passed = spec.passed items }) }
+    ensures parts { IfOk result (λ parts. parts
+        ≡ record { names = spec.buffer_names items; arrays = spec.arrays items; passed = spec.passed items }) }
 {
     let mut names = Vec::new(alloc);
     let mut arrays = Vec::new(alloc);
@@ -73,7 +75,8 @@ fn take_apart(alloc: Global, items: Seq<Item>) -> Result<Parts, AllocError>
 }
 
 fn passed_to<'a>(passed: &'a [(Text, Text)], parameter: &[u8]) -> Option<&'a (Text, Text)>
-    ensures { option_map (λ argument. argument.now) result ≡ find (λ argument. bytes_eq argument.0 parameter.now) passed.now }
+    ensures { option_map (λ argument. argument.now) result ≡ find
+        (λ argument. bytes_eq argument.0 parameter.now) passed.now }
 {
     passed
         .iter()
@@ -112,7 +115,11 @@ fn words_in(arrays: &[Array], number: usize) -> u32
 /// The whole of a row.
 fn whole(buffer: u32, length: u32) -> View
     requires { length ≤ 2 ^ 22 }
-    ensures bound { bound_to (Arg.Array result) ≡ ArrayOf buffer (length ∷ []) (range_with_len 0 length) }
+    ensures bound { bound_to (Arg.Array result) ≡ ArrayOf (record {
+      buffer = buffer;
+      extents = length ∷ [];
+      places = range_with_len 0 length;
+    }) }
     ensures length { result.length ≡ length }
 {
     View::whole(buffer, &row_shape(length))
@@ -123,7 +130,8 @@ fn given(parts: &Parts, param: &(Text, ParamType)) -> Arg
     requires few { length parts.now.names < 2 ^ 31 }
     requires small { All spec.IsSmall parts.now.arrays }
     ensures bound { bound_to result ≡ spec.given parts.now.passed parts.now.names parts.now.arrays param.now }
-    ensures length { spec.length_of result ≡ spec.given_length parts.now.passed parts.now.names parts.now.arrays param.now }
+    ensures length { spec.length_of result
+        ≡ spec.given_length parts.now.passed parts.now.names parts.now.arrays param.now }
 {
     let number = buffer_for(parts, param.0.as_slice()).unwrap_or(0);
     let length = words_in(parts.arrays.as_slice(), number);
@@ -137,8 +145,10 @@ fn all_given(
 ) -> Result<Seq<Arg>, AllocError>
     requires few { length parts.now.names < 2 ^ 31 }
     requires small { All spec.IsSmall parts.now.arrays }
-    ensures bound { IfOk result (λ args. map bound_to args ≡ map (spec.given parts.now.passed parts.now.names parts.now.arrays) params.now) }
-    ensures lengths { IfOk result (λ args. map spec.length_of args ≡ map (spec.given_length parts.now.passed parts.now.names parts.now.arrays) params.now) }
+    ensures bound { IfOk result (λ args. map bound_to args ≡ map
+        (spec.given parts.now.passed parts.now.names parts.now.arrays) params.now) }
+    ensures lengths { IfOk result (λ args. map spec.length_of args ≡ map
+        (spec.given_length parts.now.passed parts.now.names parts.now.arrays) params.now) }
 {
     let mut args = Vec::new(alloc);
     for param in params {
@@ -185,7 +195,8 @@ fn bind_fitting(
     requires items { length items < 2 ^ 31 }
     requires short { All IsShort items }
     requires fine { spec.refusal kernels.now name.now items ≡ None }
-    ensures { IfOk result (λ bound. spec.answer bound ≡ Ok (spec.bound_at kernels.now items (unwrap_or (spec.fitting kernels.now name.now items) 0))) }
+    ensures { IfOk result (λ bound. spec.answer bound ≡ Ok (spec.bound_at kernels.now items (unwrap_or
+        (spec.fitting kernels.now name.now items) 0))) }
 {
     match fitting(kernels, name, items.as_slice()) {
         Some(at) => Ok(Ok(bind_at(alloc, kernels, at, items)?)),
@@ -230,15 +241,15 @@ fn bind_words(
 
 /// Binds the words behind a module and a kernel to a call of the first kernel of that name that they fit.
 ///
-/// The inner error is the number of the item that is refused, from 1, or 0 where the kernel itself is at fault. Each test goes
-/// over all items before the next one begins: an item is misspelled; it is the second for its buffer or parameter, or gives the
-/// 17th buffer; it passes a buffer that isn't there; the kernel is unknown (0); an item is for a parameter that the first
-/// kernel of the name doesn't have; a parameter of it has no item (0); no kernel of the name fits (0). A call that binds fits
-/// its kernel.
+/// The inner error is the number of the item that is refused, from 1, or 0 where the kernel itself is at fault. Each
+/// test goes over all items before the next one begins: an item is misspelled; it is the second for its buffer or
+/// parameter, or gives the 17th buffer; it passes a buffer that isn't there; the kernel is unknown (0); an item is
+/// for a parameter that the first kernel of the name doesn't have; a parameter of it has no item (0); no kernel of
+/// the name fits (0). A call that binds fits its kernel.
 ///
-/// It takes time linear in the words, up to the logarithm of the number of items, as long as kernels have few parameters:
-/// names are looked up one after another among buffers, of which there are at most 16, and among parameters. A buffer's words
-/// are held once.
+/// It takes time linear in the words, up to the logarithm of the number of items, as long as kernels have few
+/// parameters: names are looked up one after another among buffers, of which there are at most 16, and among
+/// parameters. A buffer's words are held once.
 #[tactic(auto, using(crate::proofs::Fitting::bound_fits))]
 pub fn bind(
     alloc: Global,
@@ -248,7 +259,8 @@ pub fn bind(
 ) -> Result<Result<BoundCall, u32>, NoMemory>
     requires kernels { length kernels.now < 2 ^ 31 }
     requires items { length items.now < 2 ^ 31 }
-    ensures binds { IfOk result (λ bound. spec.answer bound ≡ spec.bind kernels.now kernel.now (map string_bytes items.now)) }
+    ensures binds { IfOk result (λ bound. spec.answer bound ≡ spec.bind kernels.now kernel.now
+        (map string_bytes items.now)) }
     ensures fits { IfOk result (λ bound. IfOk bound (IsFitting kernels.now kernel.now)) }
 {
     bind_words(alloc, kernels, kernel, items)

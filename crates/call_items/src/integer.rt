@@ -50,7 +50,8 @@ fn has_integer_form(text: &[u8]) -> bool
     }
 }
 
-/// The integer that a text is: decimal digits without a leading zero, after a `-` or none, whose number lies from -2^63 to
+/// The integer that a text is: decimal digits without a leading zero, after a `-` or none, whose number lies from
+/// -2^63 to
 /// 2^63-1. `-0` is one. None where the text is another one.
 #[tactic(auto, using(crate::proofs::Digits::parsed, crate::proofs::Digits::printed))]
 pub fn read_integer(text: &str) -> Option<i64>

@@ -1,4 +1,5 @@
-ghost use Rattle.std.specs.Prelude.{◌≡◌, ◌<◌, ◌^◌, ◌++◌, ◌∷◌, [], ◌||◌, IfOk, OnOk, IfSome, List, ℕ, length, map, nat_le, bytes_eq, option_map};
+ghost use Rattle.std.specs.Prelude.{◌≡◌, ◌<◌, ◌^◌, ◌++◌, ◌∷◌, [], ◌||◌, IfOk, OnOk, IfSome, List, ℕ, length, map};
+ghost use Rattle.std.specs.Prelude.{nat_le, bytes_eq, option_map};
 ghost use Rattle.std.specs.List.{list_any, count_by, position};
 ghost use Rattle.call_items.specs.Binding as spec;
 ghost use Rattle.call_items.specs.Parameters.{HasParameters, has};
@@ -12,6 +13,7 @@ use std::collections::BTreeMap;
 /// How many buffers a call may have.
 const MOST_BUFFERS: usize = 16;
 
+/// Whether two texts are equal, byte by byte.
 pub fn same_bytes(left: &[u8], right: &[u8]) -> bool
     ensures { result ≡ bytes_eq left.now right.now }
 {
@@ -71,7 +73,8 @@ fn has_most_buffers(items: &[Item]) -> bool
 
 /// Whether a buffer of this name is the second one, or the 17th of all.
 fn is_surplus_buffer(name: &[u8], before: &[Item]) -> bool
-    ensures { result ≡ (list_any (spec.is_buffer_named name.now) before.now || nat_le 16 (count_by spec.is_buffer before.now)) }
+    ensures { result ≡ (list_any (spec.is_buffer_named name.now) before.now || nat_le 16
+        (count_by spec.is_buffer before.now)) }
 {
     any_buffer_named(name, before) || has_most_buffers(before)
 }
@@ -82,7 +85,8 @@ fn is_met<'a>(
     parameters: &mut BTreeMap<&'a [u8], ()>,
 ) -> Result<bool, AllocError>
     ensures answer { IfOk result (λ met. met ≡ has parameters.old parameter.now) }
-    ensures others { OnOk result ((q : List ℕ) → has parameters.new q ≡ (has parameters.old q || bytes_eq parameter.now q)) }
+    ensures others { OnOk result ((q : List ℕ) →
+        has parameters.new q ≡ (has parameters.old q || bytes_eq parameter.now q)) }
 {
     Ok(parameters.insert(parameter.as_slice(), ())?.is_some())
 }
@@ -103,8 +107,9 @@ fn is_surplus<'a>(
     }
 }
 
-/// The number of the first item that is the second for its buffer or parameter, or gives the 17th buffer. At most 17 buffers
-/// are looked up among the items before them, and parameters in a map, so it takes time nearly linear in the items.
+/// The number of the first item that is the second for its buffer or parameter, or gives the 17th buffer. At most 17
+/// buffers are looked up among the items before them, and parameters in a map, so it takes time nearly linear in the
+/// items.
 fn surplus(alloc: Global, items: &[Item]) -> Result<Option<u32>, AllocError>
     requires { length items.now < 2 ^ 31 }
     ensures { IfOk result (λ number. number ≡ spec.surplus items.now) }
@@ -131,7 +136,8 @@ fn numbered(at: Option<usize>) -> Option<u32>
 
 /// Adds an item's name where it is a buffer.
 fn push_name<'a>(names: &mut Vec<&'a [u8]>, item: &'a Item) -> Result<(), AllocError>
-    ensures { OnOk result (map (λ name. name.now) names.new.items ≡ map (λ name. name.now) names.old.items ++ spec.buffer_names (item.now ∷ [])) }
+    ensures { OnOk result (map (λ name. name.now) names.new.items ≡ map (λ name. name.now) names.old.items
+        ++ spec.buffer_names (item.now ∷ [])) }
 {
     match item {
         Item::Buffer { name, .. } => names.push(name.as_slice())?,
@@ -173,8 +179,8 @@ fn find_unbound(names: &[&[u8]], items: &[Item]) -> Option<usize>
     items.iter().position(|item| is_unbound(names, item))
 }
 
-/// The number of the first item that passes a buffer which isn't there. It looks a name up among the buffers, of which there
-/// are at most 16 once no item is one too many.
+/// The number of the first item that passes a buffer which isn't there. It looks a name up among the buffers, of
+/// which there are at most 16 once no item is one too many.
 fn unbound(alloc: Global, items: &[Item]) -> Result<Option<u32>, AllocError>
     requires { length items.now < 2 ^ 31 }
     ensures { IfOk result (λ number. number ≡ spec.unbound items.now) }

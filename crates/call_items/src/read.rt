@@ -1,7 +1,8 @@
 ghost use Rattle.std.specs.Prelude.{◌≡◌, ◌<◌, ◌≤◌, ◌^◌, IfOk, option_map, length, map, codes, nat_le};
 ghost use Rattle.std.specs.List.{All};
 ghost use Rattle.std.specs.String.{string_bytes};
-ghost use Rattle.call_items.specs.Reading.{is_name, item, cut, after, buffer_item, argument_item, by_sides, read_from, IsShort};
+ghost use Rattle.call_items.specs.Reading.{is_name, item, cut, after, buffer_item, argument_item, by_sides};
+ghost use Rattle.call_items.specs.Reading.{read_from, IsShort};
 ghost use Rattle.call_items.specs.Integers.{elements};
 
 use crate::integer::read_elements;

@@ -101,7 +101,8 @@ fn outcome(
 }
 
 const SIXTEEN: &str =
-    "buf:B0= buf:B1= buf:B2= buf:B3= buf:B4= buf:B5= buf:B6= buf:B7= buf:B8= buf:B9= buf:B10= buf:B11= buf:B12= buf:B13= buf:B14= buf:B15=";
+    "buf:B0= buf:B1= buf:B2= buf:B3= buf:B4= buf:B5= buf:B6= buf:B7= buf:B8= buf:B9= buf:B10= buf:B11= buf:B12= \
+    buf:B13= buf:B14= buf:B15=";
 
 /// Each test with its number, and in its place before the ones behind it.
 #[test]

@@ -6,6 +6,8 @@ use Rattle.call_items.proofs.call.all_given.Given as goal
 abbrev pub invariant-loop-param : goal.invariant-loop-param
 invariant-loop-param l =
     record {
-      bound : map bound_to l.args.items ≡ map (given l.parts.passed l.parts.names l.parts.arrays) (take l.param-index l.params);
-      lengths : map length_of l.args.items ≡ map (given_length l.parts.passed l.parts.names l.parts.arrays) (take l.param-index l.params);
+      bound : map bound_to l.args.items ≡ map (given l.parts.passed l.parts.names l.parts.arrays)
+          (take l.param-index l.params);
+      lengths : map length_of l.args.items ≡ map (given_length l.parts.passed l.parts.names l.parts.arrays)
+          (take l.param-index l.params);
     }

@@ -5,6 +5,9 @@ use Rattle.call_items.proofs.call.bind_fitting.Goals as goal
 
 pub returns-in-None : goal.returns-in-None
 returns-in-None c =
-    absurd (some_fits (surplus c.args.items) (unbound c.args.items) (unknown (first_named c.args.kernels.now c.args.name.now))
-    (stray (first_params c.args.kernels.now c.args.name.now) c.args.items) (missing (first_params c.args.kernels.now c.args.name.now) c.args.items)
-    (fitting c.args.kernels.now c.args.name.now c.args.items) c.requires.fine (sym (c.in-None.ensures.place ∙ ap (fitting c.args.kernels.now c.args.name.now) c.as_slice.ensures)))
+    absurd (some_fits (surplus c.args.items) (unbound c.args.items) (unknown
+    (first_named c.args.kernels.now c.args.name.now))
+    (stray (first_params c.args.kernels.now c.args.name.now) c.args.items) (missing
+    (first_params c.args.kernels.now c.args.name.now) c.args.items)
+    (fitting c.args.kernels.now c.args.name.now c.args.items) c.requires.fine (sym (c.in-None.ensures.place ∙ ap
+    (fitting c.args.kernels.now c.args.name.now) c.as_slice.ensures)))

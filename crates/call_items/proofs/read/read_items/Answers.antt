@@ -13,11 +13,16 @@ loop-at-preserved c =
     let text = string_bytes c.index-texts-at.result in
     let x = c.in-Some.item in
     let e : Some x ≡ item text = search rules in (
-      subst (λ (items : List Item). following items (read_from (c.loop-at.at + 1 + 1) (map string_bytes (drop (c.loop-at.at + 1) c.args.texts.now))) ≡ read_from 1 (map string_bytes c.args.texts.now))
+      subst (λ (items : List Item). following items (read_from (c.loop-at.at + 1 + 1) (map string_bytes (drop
+          (c.loop-at.at + 1) c.args.texts.now))) ≡ read_from 1 (map string_bytes c.args.texts.now))
           (sym c.in_ok-push-in-Some.ensures.items)
-          (read_more c.loop-at.items.items (map string_bytes (drop (c.loop-at.at + 1) c.args.texts.now)) c.loop-at.at text x (read_from 1 (map string_bytes c.args.texts.now))
-          (ap (λ texts. following c.loop-at.items.items (read_from (c.loop-at.at + 1) (map string_bytes texts))) (sym (item_here c.args.texts.now c.loop-at.at c.index-texts-at.result lt c.index-texts-at.is)) ∙ c.loop-at.invariant.0)
+          (read_more c.loop-at.items.items (map string_bytes (drop
+          (c.loop-at.at + 1) c.args.texts.now)) c.loop-at.at text x (read_from 1 (map string_bytes c.args.texts.now))
+          (ap (λ texts. following c.loop-at.items.items (read_from (c.loop-at.at + 1) (map string_bytes texts)))
+          (sym (item_here c.args.texts.now c.loop-at.at c.index-texts-at.result lt c.index-texts-at.is))
+          ∙ c.loop-at.invariant.0)
           e),
-      subst (All IsShort) (sym c.in_ok-push-in-Some.ensures.items) (All-push IsShort c.loop-at.items.items x c.loop-at.invariant.1 (item_short text x e)),
+      subst (All IsShort) (sym c.in_ok-push-in-Some.ensures.items)
+          (All-push IsShort c.loop-at.items.items x c.loop-at.invariant.1 (item_short text x e)),
       search rules,
     )

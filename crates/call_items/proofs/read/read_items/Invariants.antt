@@ -7,6 +7,7 @@ use Rattle.call_items.proofs.read.read_items.Given as goal
 
 abbrev pub invariant-loop-at : goal.invariant-loop-at
 invariant-loop-at l =
-    (following l.items.items (read_from (l.at + 1) (map string_bytes (drop l.at l.texts))) ≡ read_from 1 (map string_bytes l.texts))
+    (following l.items.items (read_from (l.at + 1) (map string_bytes (drop l.at l.texts))) ≡ read_from 1
+    (map string_bytes l.texts))
     × All IsShort l.items.items
     × (length l.items.items ≡ l.at)
