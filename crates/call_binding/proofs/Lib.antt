@@ -1,0 +1,12 @@
+pub mod ArrayFiles
+pub mod Consecutive
+pub mod Digits
+pub mod FillLaws
+pub mod FitLaws
+pub mod Lists
+pub mod OneAnswer
+pub mod Outcomes
+pub mod Plans
+pub mod Soundness
+pub mod Turns
+pub mod ViewLaws

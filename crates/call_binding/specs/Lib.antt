@@ -1,0 +1,13 @@
+pub mod Integers
+pub mod Reading
+pub mod Tests
+pub mod Files
+pub mod Views
+pub mod Binding
+pub mod Fitting
+pub mod Outcome
+pub mod Planning
+pub mod Sound
+pub mod Parameters
+pub mod Seen
+pub mod Filling
