@@ -1,5 +1,7 @@
-mod Bindings
+mod Layers
 mod Lists
+pub mod Loads
 pub mod Modules
-mod Nests
-mod Theorem
+pub mod Programs
+pub mod Saves
+pub mod Theorem

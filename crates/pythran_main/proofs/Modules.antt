@@ -1,5 +1,6 @@
 -- A tree tells its kernel, and a module's bytes their reading.
-use Rattle.std.proofs.Common.{◌≡◌, ℕ, zero, suc, ◌≤◌, ◌==◌, Bool, true, false, not, ◌&&◌, List, [], ◌∷◌, refl, sym, ◌∙◌, ap, subst, inl, inr, arith, if◌then◌else◌, Option, Some, None, Result, Ok, Err, rules}
+use Rattle.std.proofs.Common.{◌≡◌, ℕ, zero, suc, ◌≤◌, ◌==◌, Bool, true, false, not, ◌&&◌, List, [], ◌∷◌, refl, sym, ◌∙◌}
+use Rattle.std.proofs.Common.{ap, subst, arith, if◌then◌else◌, Option, Some, None, Result, Ok, Err, rules}
 use Rattle.std.proofs.lemmas.Slice.Eq.{bytes_eq-Decides}
 use Rattle.std.specs.Prelude.{option_and_then}
 use Rattle.std.specs.Str.{bytes_eq}
@@ -9,6 +10,7 @@ use Rattle.krn_base.specs.declared.refusal.Refusal.{Refusal}
 use Rattle.krn_base.specs.declared.refusal.Rule.{Rule}
 use Rattle.krn_base.specs.declared.refusal.Stop.{Stop}
 use Rattle.krn_base.specs.declared.refusal.Stop.TheVariants as stop
+use Rattle.export_sig.specs.NoteLists as notes
 use Rattle.py_lex.specs.Lexed as lexed
 use Rattle.py_lex.specs.declared.token.Tokens.{Tokens}
 use Rattle.py_parse.specs.Parsed as parsed
@@ -27,9 +29,14 @@ use Rattle.py_parse.specs.declared.tree.Stmt.TheOpen.{Stmt-F}
 use Rattle.py_parse.specs.declared.tree.Stmt.TheVariants as s
 use Rattle.py_parse.specs.declared.tree.Sub.{Sub}
 use Rattle.py_parse.specs.declared.tree.Trailer.{Trailer}
-use Rattle.pythran_main.specs.Form.{Operation, Link, only, name_by, name_in, named, with_link, operation_by, operation_in, value_by, value_in, returned, number_in, numbered, kernel_of, kernel_with, kernel_in, candidate, is_exported_by, is_empty, is_whole, whole, form_of}
-use Rattle.pythran_main.specs.Module.{are_names, is_free_name, is_short, parameter, Places, function_of, export_text, IsKernelOf}
-use Rattle.pythran_main.specs.Reading.{HasTree, IsNotLexed, IsNotParsed, IsReading, IsOneReading, no_module}
+use Rattle.pythran_main.specs.Form.{Operation, Link, only, name_by, name_in, named, with_link, operation_by}
+use Rattle.pythran_main.specs.Form.{operation_in, value_by, value_in, returned, number_in, numbered, kernel_of}
+use Rattle.pythran_main.specs.Form.{kernel_with, kernel_in, candidate, is_exported_by, is_empty, is_whole, whole}
+use Rattle.pythran_main.specs.Form.{form_of}
+use Rattle.pythran_main.specs.Module.{are_names, is_free_name, is_short, parameter, Places, function_of, export_text}
+use Rattle.pythran_main.specs.Module.{IsKernelOf}
+use Rattle.pythran_main.specs.Layers.{IsOne}
+use Rattle.pythran_main.specs.Reading.{Lexes, Parses, Lists, Shortens, no_module}
 use Rattle.pythran_main.specs.declared.kernel.ShortKernel.{ShortKernel}
 
 -- ---- what the nodes of a tree are
@@ -63,7 +70,8 @@ some_same x y h = cc
 none_some : {A : Type 0} (x : A) → None ≡ Some x → ⊥
 none_some x h = cc
 
-then_some : {A B : Type 0} (o : Option A) (f : A → Option B) (y : B) → option_and_then f o ≡ Some y → (x : A) × (o ≡ Some x) × (f x ≡ Some y)
+then_some : {A B : Type 0} (o : Option A) (f : A → Option B) (y : B) → option_and_then f o ≡ Some y → (x : A)
+    × (o ≡ Some x) × (f x ≡ Some y)
 then_some (Some x) f y h = (x, refl, h)
 then_some None f y h = absurd (none_some y h)
 
@@ -79,10 +87,16 @@ name_some y x h = by_layer (out-Expr y) refl h
     by_layer (Expr-F.Name z) is h = out_name y z is ∙ ap (λ (n : Name). e.Name n) (some_same z x h)
     by_layer _ is h = absurd (none_some x h)
 
-named_some : (l r : Option Name) (op : BinOp) (at : Loc) (o : Operation) → named l r op at ≡ Some o → (l ≡ Some o.left) × (r ≡ Some o.right) × (op ≡ o.op) × (at ≡ o.at)
+named_some : (l r : Option Name) (op : BinOp) (at : Loc) (o : Operation) → named l r op at ≡ Some o → (l ≡ Some o.left)
+    × (r ≡ Some o.right) × (op ≡ o.op) × (at ≡ o.at)
 named_some (Some x) (Some y) op at o h =
-    let same : record { left = x; op = op; at = at; right = y } ≡ o = some_same _ o h in
-    (ap (λ (o : Operation). Some o.left) same, ap (λ (o : Operation). Some o.right) same, ap (λ (o : Operation). o.op) same, ap (λ (o : Operation). o.at) same)
+    let same : record { left = x; op = op; at = at; right = y } ≡ o = some_same _ o h in (
+      ap (λ (o : Operation). Some o.left) same,
+      ap (λ (o : Operation). Some o.right) same,
+      ap (λ (o : Operation). o.op)
+          same,
+      ap (λ (o : Operation). o.at) same,
+    )
 named_some (Some x) None op at o h = absurd (none_some o h)
 named_some None y op at o h = absurd (none_some o h)
 
@@ -106,17 +120,20 @@ operation_some y o h = by_layer (out-Expr y) refl h
     by_layer : (l : Layer) → out-Expr y ≡ l → operation_by l ≡ Some o → y ≡ spelled o
     by_layer (Expr-F.Chain x links) is h =
         let found = then_some (only links) (with_link x) o h in
-        out_chain y x links is ∙ ap (λ (ls : List Link). e.Chain x ls) (only_some links (found.0) (found.1)) ∙ link_some x (found.0) o (found.2)
+        out_chain y x links is ∙ ap (λ (ls : List Link). e.Chain x ls) (only_some links (found.0) (found.1))
+        ∙ link_some x (found.0) o (found.2)
     by_layer _ is h = absurd (none_some o h)
 
 value_some : (y : Stmt) (x : Expr) → value_in y ≡ Some x → (at : Loc) × (y ≡ s.Return at (x ∷ []))
 value_some y x h = by_layer (out-Stmt y) refl h
   where
     by_layer : (l : Stmt-F Stmt) → out-Stmt y ≡ l → value_by l ≡ Some x → (at : Loc) × (y ≡ s.Return at (x ∷ []))
-    by_layer (Stmt-F.Return at xs) is h = (at, out_return y at xs is ∙ ap (λ (zs : List Expr). s.Return at zs) (only_some xs x h))
+    by_layer (Stmt-F.Return at xs) is h =
+        (at, out_return y at xs is ∙ ap (λ (zs : List Expr). s.Return at zs) (only_some xs x h))
     by_layer _ is h = absurd (none_some x h)
 
-returned_some : (body : List Stmt) (o : Operation) → returned body ≡ Some o → (at : Loc) × (body ≡ s.Return at (spelled o ∷ []) ∷ [])
+returned_some : (body : List Stmt) (o : Operation) → returned body ≡ Some o → (at : Loc)
+    × (body ≡ s.Return at (spelled o ∷ []) ∷ [])
 returned_some body o h =
     let value = then_some (option_and_then value_in (only body)) operation_in o h in
     let statement = then_some (only body) value_in (value.0) (value.1) in
@@ -126,10 +143,12 @@ returned_some body o h =
           ∙ ap (λ (x : Expr). s.Return (returns.0) (x ∷ []) ∷ []) (operation_some (value.0) o (value.2)),
     )
 
-number_some : (first second x : Name) (n : ℕ) → number_in first second x ≡ Some n → (n ≤ 1) × (x.text ≡ (if n == 0 then first.text else second.text))
+number_some : (first second x : Name) (n : ℕ) → number_in first second x ≡ Some n → (n ≤ 1)
+    × (x.text ≡ (if n == 0 then first.text else second.text))
 number_some first second x n h = by_tests (bytes_eq x.text first.text) (bytes_eq x.text second.text) refl refl h
   where
-    by_tests : (a b : Bool) → bytes_eq x.text first.text ≡ a → bytes_eq x.text second.text ≡ b → (if a then Some 0 else (if b then Some 1 else None)) ≡ Some n
+    by_tests : (a b : Bool) → bytes_eq x.text first.text ≡ a → bytes_eq x.text second.text ≡ b
+        → (if a then Some 0 else (if b then Some 1 else None)) ≡ Some n
         → (n ≤ 1) × (x.text ≡ (if n == 0 then first.text else second.text))
     by_tests true b is_a is_b h =
         let P : ℕ → Type 0 = λ n. (n ≤ 1) × (x.text ≡ (if n == 0 then first.text else second.text)) in
@@ -161,28 +180,44 @@ made f first second o left right = record {
   weight = f.weight;
 }
 
-made_is : (f : Function) (first second : Name) (o : Operation) (left right : ℕ) (at : Loc) → f.params ≡ first ∷ second ∷ []
-    → f.body ≡ s.Return at (spelled o ∷ []) ∷ [] → (left ≤ 1) × (o.left.text ≡ (if left == 0 then first.text else second.text))
-    → (right ≤ 1) × (o.right.text ≡ (if right == 0 then first.text else second.text)) → IsOf f (made f first second o left right)
+made_is : (f : Function) (first second : Name) (o : Operation) (left right : ℕ) (at : Loc) → f.params ≡ first ∷ second
+    ∷ []
+    → f.body ≡ s.Return at (spelled o ∷ []) ∷ [] → (left ≤ 1)
+    × (o.left.text ≡ (if left == 0 then first.text else second.text))
+    → (right ≤ 1) × (o.right.text ≡ (if right == 0 then first.text else second.text))
+    → IsOf f (made f first second o left right)
 made_is f first second o left right at params body l r = record {
-  places = record { name = f.name.loc; first = first.loc; second = second.loc; returns = at; left = o.left.loc; right = o.right.loc };
+  places = record {
+    name = f.name.loc;
+    first = first.loc;
+    second = second.loc;
+    returns = at;
+    left = o.left.loc;
+    right =
+        o.right.loc;
+  };
   is =
-      let F : List Name → List Stmt → Function = λ ps b. record { name = f.name; params = ps; body = b; weight = f.weight } in
-      let S : Name → Name → List Stmt = λ x y. s.Return at (e.Chain (e.Name x) ((o.op, o.at, e.Name y) ∷ []) ∷ []) ∷ [] in
+      let F : List Name → List Stmt → Function =
+      λ ps b. record { name = f.name; params = ps; body = b; weight = f.weight } in
+      let S : Name → Name → List Stmt = λ x y. s.Return at (e.Chain (e.Name x) ((o.op, o.at, e.Name y) ∷ []) ∷ [])
+      ∷ [] in
       ap (λ ps. F ps f.body) params ∙ ap (F (first ∷ second ∷ [])) (body ∙ ap (λ t. S (named_by o.left t) o.right) (l.1)
       ∙ ap (λ t. S (named_by o.left (if left == 0 then first.text else second.text)) (named_by o.right t)) (r.1));
   left_number = l.0;
   right_number = r.0;
 }
 
-numbered_some : (f : Function) (first second : Name) (o : Operation) (l r : Option ℕ) (k : ShortKernel) → numbered f first second o l r ≡ Some k
+numbered_some : (f : Function) (first second : Name) (o : Operation) (l r : Option ℕ) (k : ShortKernel)
+    → numbered f first second o l r ≡ Some k
     → (left right : ℕ) × (l ≡ Some left) × (r ≡ Some right) × (made f first second o left right ≡ k)
 numbered_some f first second o (Some left) (Some right) k h = (left, right, refl, refl, some_same _ k h)
 numbered_some f first second o (Some left) None k h = absurd (none_some k h)
 numbered_some f first second o None r k h = absurd (none_some k h)
 
-with_some : (f : Function) (params : List Name) (o : Option Operation) (k : ShortKernel) → kernel_with f params o ≡ Some k
-    → (first second : Name) × (x : Operation) × (params ≡ first ∷ second ∷ []) × (o ≡ Some x) × (kernel_of f first second x ≡ Some k)
+with_some : (f : Function) (params : List Name) (o : Option Operation) (k : ShortKernel)
+    → kernel_with f params o ≡ Some k
+    → (first second : Name) × (x : Operation) × (params ≡ first ∷ second ∷ []) × (o ≡ Some x)
+    × (kernel_of f first second x ≡ Some k)
 with_some f (first ∷ second ∷ []) (Some x) k h = (first, second, x, refl, refl, h)
 with_some f [] o k h = absurd (none_some k h)
 with_some f (first ∷ []) o k h = absurd (none_some k h)
@@ -192,9 +227,11 @@ with_some f (first ∷ second ∷ third ∷ more) o k h = absurd (none_some k h)
 kernel_some : (f : Function) (k : ShortKernel) → kernel_in f ≡ Some k → IsOf f k
 kernel_some f k h =
     let (first, second, o, params, found, is) = with_some f f.params (returned f.body) k h in
-    let (left, right, l, r, same) = numbered_some f first second o (number_in first second o.left) (number_in first second o.right) k is in
+    let (left, right, l, r, same) =
+    numbered_some f first second o (number_in first second o.left) (number_in first second o.right) k is in
     let body = returned_some f.body o found in
-    subst (IsOf f) same (made_is f first second o left right (body.0) params (body.1) (number_some first second o.left left l) (number_some first second o.right right r))
+    subst (IsOf f) same (made_is f first second o left right (body.0) params (body.1)
+    (number_some first second o.left left l) (number_some first second o.right right r))
 
 -- ---- a module of a kernel has no other candidate
 
@@ -210,7 +247,11 @@ equal_bytes : (x : List ℕ) → bytes_eq x x ≡ true
 equal_bytes x = (bytes_eq-Decides x x).1 refl
 
 number_is : (k : ShortKernel) (first second left : Loc) (n : ℕ) → bytes_eq k.second k.first ≡ false → n ≤ 1
-    → number_in (record { text = k.first; loc = first }) (record { text = k.second; loc = second }) (record { text = parameter k n; loc = left }) ≡ Some n
+    → number_in (record { text = k.first; loc = first }) (record { text = k.second; loc = second }) (record {
+      text =
+          parameter k n;
+      loc = left;
+    }) ≡ Some n
 number_is k first second left zero apart h =
     ap (λ (t : Bool). if t then Some 0 else (if bytes_eq k.first k.second then Some 1 else None)) (equal_bytes k.first)
 number_is k first second left (suc zero) apart h =
@@ -222,7 +263,8 @@ name_found : (x : Name) → name_in (e.Name x) ≡ Some x
 name_found x = ap name_by (name_out x)
 
 returned_is : (at : Loc) (x y : Name) (op : BinOp) (loc : Loc)
-    → returned (s.Return at (e.Chain (e.Name x) ((op, loc, e.Name y) ∷ []) ∷ []) ∷ []) ≡ Some (record { left = x; op = op; at = loc; right = y })
+    → returned (s.Return at (e.Chain (e.Name x) ((op, loc, e.Name y) ∷ []) ∷ [])
+    ∷ []) ≡ Some (record { left = x; op = op; at = loc; right = y })
 returned_is at x y op loc =
     let value : Expr = e.Chain (e.Name x) ((op, loc, e.Name y) ∷ []) in
     ap (λ l. option_and_then operation_in (value_by l)) (return_out at (value ∷ []))
@@ -273,11 +315,13 @@ module _ (m : Module) (k : ShortKernel) (is : IsKernelOf m k) where
       ∙ (bytes_eq-Decides is.note.text (export_text k)).1 is.export
 
   pub form_is : form_of m ≡ Some k
-  form_is = ap (λ o. option_and_then (whole m) o) only_candidate ∙ ap (λ (t : Bool). if t then Some k else None) is_whole_module
+  form_is = ap (λ o. option_and_then (whole m) o) only_candidate
+      ∙ ap (λ (t : Bool). if t then Some k else None) is_whole_module
 
 -- ---- and what is found is its kernel
 
-exported_by : (ns : List Note) (k : ShortKernel) → is_exported_by (only ns) k ≡ true → (note : Note) × (ns ≡ note ∷ []) × (note.text ≡ export_text k)
+exported_by : (ns : List Note) (k : ShortKernel) → is_exported_by (only ns) k ≡ true → (note : Note) × (ns ≡ note ∷ [])
+    × (note.text ≡ export_text k)
 exported_by [] k h = cc
 exported_by (note ∷ []) k h = (note, refl, (bytes_eq-Decides note.text (export_text k)).0 h)
 exported_by (note ∷ other ∷ more) k h = cc
@@ -322,7 +366,7 @@ form_none m h k is = none_some k (sym h ∙ form_is m k is)
 one_kernel : (m : Module) (k l : ShortKernel) → IsKernelOf m k → IsKernelOf m l → k ≡ l
 one_kernel m k l is other = some_same k l (sym (form_is m k is) ∙ form_is m l other)
 
--- ---- a module's bytes have one reading
+-- ---- each layer has one reading
 
 ok_same : (x y : Tokens) → (let P : Result Tokens Loc = Ok x in P) ≡ Ok y → x ≡ y
 ok_same x y h = cc
@@ -338,89 +382,94 @@ refusal_same q r a b =
     let R : Rule → Loc → Refusal = λ x y. record { rule = x; loc = y } in
     ap (λ (x : Rule). R x q.loc) a ∙ ap (R r.rule) b
 
-abbrev Reading : Type 0
-Reading = Result ShortKernel Refusal
-
-abbrev refuses : Refusal → Reading
-refuses r = Err r
-
-err_is : (q r : Refusal) → q ≡ r → refuses q ≡ refuses r
-err_is q r h = ap refuses h
-
--- where the lexer refuses
-pub not_lexed : (file : List ℕ) (r : Refusal) → IsNotLexed file r → IsOneReading file (Err r)
-not_lexed file r is = record { reading = inl is; alone = alone }
+pub lexed_as : (file : List ℕ) (ts : Tokens) → lexed.IsLexed file ts → IsOne (Lexes file) (Ok ts)
+lexed_as file ts is = record { gives = is; alone = alone }
   where
-    no_tokens : (ts : Tokens) → lexed.IsLexed file ts → ⊥
-    no_tokens ts l = ok_err ts r.loc (sym l.is_list ∙ is.1)
+    alone : (other : Result Tokens Refusal) → Lexes file other → other ≡ Ok ts
+    alone (Ok us) l = ap (λ (x : Tokens). Ok x) (ok_same us ts (sym l.is_list ∙ is.is_list))
+    alone (Err q) h = absurd (ok_err ts q.loc (sym is.is_list ∙ h.1))
 
-    alone : (other : Reading) → IsReading file other → other ≡ Err r
-    alone (Ok k) has = absurd (no_tokens has.tree.tokens has.tree.lexed)
-    alone (Err q) (inl h) = err_is q r (refusal_same q r (h.0 ∙ sym (is.0)) (err_same q.loc r.loc (sym (h.1) ∙ is.1)))
-    alone (Err q) (inr (inl h)) = absurd (no_tokens h.tokens h.lexed)
-    alone (Err q) (inr (inr h)) = absurd (no_tokens h.tree.tokens h.tree.lexed)
+pub not_lexed : (file : List ℕ) (r : Refusal) → lexed.IsRefusal file (stop.Refused r) → IsOne (Lexes file) (Err r)
+not_lexed file r is = record { gives = is; alone = alone }
+  where
+    alone : (other : Result Tokens Refusal) → Lexes file other → other ≡ Err r
+    alone (Ok us) l = absurd (ok_err us r.loc (sym l.is_list ∙ is.1))
+    alone (Err q) h =
+        ap (λ (x : Refusal). Err x) (refusal_same q r (h.0 ∙ sym (is.0)) (err_same q.loc r.loc (sym (h.1) ∙ is.1)))
 
--- where it gives tokens
-module _ (file : List ℕ) (ts : Tokens) (is : lexed.IsLexed file ts) where
-  same_tokens : (us : Tokens) → lexed.IsLexed file us → us ≡ ts
-  same_tokens us l = ok_same us ts (sym l.is_list ∙ is.is_list)
+module _ (file : List ℕ) (ts : Tokens) where
+  pub parsed_as : (m : Module) → parsed.IsTree file ts m
+      → ((n : Module) → parsed.IsTree file ts n → parsed.IsOnly n (Ok m))
+      → ((q : Refusal) → parsed.IsRefusal file ts (stop.Refused q) → parsed.IsOnlyRefusal q (Ok m))
+      → IsOne (Parses file ts) (Ok m)
+  parsed_as m tree one_tree no_refusal = record { gives = tree; alone = alone }
+    where
+      alone : (other : Result Module Refusal) → Parses file ts other → other ≡ Ok m
+      alone (Ok n) has = ap (λ (x : Module). Ok x) (sym (one_tree n has))
+      alone (Err q) has = absurd (no_refusal q has)
 
-  not_refused : (q : Refusal) → IsNotLexed file q → ⊥
-  not_refused q h = ok_err ts q.loc (sym is.is_list ∙ h.1)
-
-  tree_at : (n : Module) → HasTree file n → parsed.IsTree file ts n
-  tree_at n has = let P : Tokens → Type 0 = λ us. parsed.IsTree file us n in subst P (same_tokens has.tokens has.lexed) has.tree
-
-  refused_at : (q : Refusal) → IsNotParsed file q → parsed.IsRefusal file ts (stop.Refused q)
-  refused_at q h = let P : Tokens → Type 0 = λ us. parsed.IsRefusal file us (stop.Refused q) in subst P (same_tokens h.tokens h.lexed) h.refused
-
-  -- where the parser refuses them
   not_parsed : (r : Refusal) → parsed.IsRefusal file ts (stop.Refused r)
       → ((n : Module) → parsed.IsTree file ts n → parsed.IsOnly n (Err (stop.Refused r)))
       → ((q : Refusal) → parsed.IsRefusal file ts (stop.Refused q) → parsed.IsOnlyRefusal q (Err (stop.Refused r)))
-      → IsOneReading file (Err r)
-  not_parsed r refused no_tree place = record { reading = inr (inl (record { tokens = ts; lexed = is; refused = refused })); alone = alone }
+      → IsOne (Parses file ts) (Err r)
+  not_parsed r refused no_tree place = record { gives = refused; alone = alone }
     where
-      alone : (other : Reading) → IsReading file other → other ≡ Err r
-      alone (Ok k) has = absurd (no_tree has.module (tree_at has.module has.tree))
-      alone (Err q) (inl h) = absurd (not_refused q h)
-      alone (Err q) (inr (inl h)) = err_is q r (sym (place q (refused_at q h)))
-      alone (Err q) (inr (inr h)) = absurd (no_tree h.module (tree_at h.module h.tree))
+      alone : (other : Result Module Refusal) → Parses file ts other → other ≡ Err r
+      alone (Ok n) has = absurd (no_tree n has)
+      alone (Err q) has = ap (λ (x : Refusal). Err x) (sym (place q has))
 
   pub not_parsed_at : (s : Stop) (r : Refusal) → s ≡ stop.Refused r → parsed.IsRefusal file ts s
       → ((n : Module) → parsed.IsTree file ts n → parsed.IsOnly n (Err s))
       → ((q : Refusal) → parsed.IsRefusal file ts (stop.Refused q) → parsed.IsOnlyRefusal q (Err s))
-      → IsOneReading file (Err r)
+      → IsOne (Parses file ts) (Err r)
   not_parsed_at s r is refused no_tree place =
       not_parsed r (subst (λ (x : Stop). parsed.IsRefusal file ts x) is refused)
       (λ n t. subst (λ (x : Stop). parsed.IsOnly n (Err x)) is (no_tree n t))
       (λ q h. subst (λ (x : Stop). parsed.IsOnlyRefusal q (Err x)) is (place q h))
 
-  -- where it gives a tree
-  module _ (m : Module) (tree : parsed.IsTree file ts m) (one_tree : (n : Module) → parsed.IsTree file ts n → parsed.IsOnly n (Ok m))
-      (no_refusal : (q : Refusal) → parsed.IsRefusal file ts (stop.Refused q) → parsed.IsOnlyRefusal q (Ok m)) where
-    has_tree : HasTree file m
-    has_tree = record { tokens = ts; lexed = is; tree = tree }
+-- a list that is the only one, and the refusal that is the only one where there is no list
+module _ {X : Type 0} (is_list : List X → Type 0) (is_refusal : Stop → Type 0) where
+  pub listed_as : (xs : List X) → is_list xs → ((ys : List X) → is_list ys → notes.IsOnly ys (Ok xs))
+      → ((q : Refusal) → is_refusal (stop.Refused q)
+      → notes.IsOnlyRefusal q (let P : Result (List X) Stop = Ok xs in P))
+      → IsOne (Lists is_list is_refusal) (Ok xs)
+  listed_as xs is one_list no_refusal = record { gives = is; alone = alone }
+    where
+      alone : (other : Result (List X) Refusal) → Lists is_list is_refusal other → other ≡ Ok xs
+      alone (Ok ys) has = ap (λ (x : List X). Ok x) (sym (one_list ys has))
+      alone (Err q) has = absurd (no_refusal q has)
 
-    kernel_at : (n : Module) (k : ShortKernel) → HasTree file n → IsKernelOf n k → IsKernelOf m k
-    kernel_at n k has kernel = let P : Module → Type 0 = λ x. IsKernelOf x k in subst P (sym (one_tree n (tree_at n has))) kernel
+  not_listed : (r : Refusal) → is_refusal (stop.Refused r)
+      → ((ys : List X) → is_list ys → notes.IsOnly ys (Err (stop.Refused r)))
+      → ((q : Refusal) → is_refusal (stop.Refused q)
+      → notes.IsOnlyRefusal q (let P : Result (List X) Stop = Err (stop.Refused r) in P))
+      → IsOne (Lists is_list is_refusal) (Err r)
+  not_listed r refused no_list place = record { gives = refused; alone = alone }
+    where
+      alone : (other : Result (List X) Refusal) → Lists is_list is_refusal other → other ≡ Err r
+      alone (Ok ys) has = absurd (no_list ys has)
+      alone (Err q) has = ap (λ (x : Refusal). Err x) (sym (place q has))
 
-    pub short : (k : ShortKernel) → form_of m ≡ Some k → IsOneReading file (Ok k)
-    short k h = record { reading = record { «module» = m; tree = has_tree; kernel = form_some m k h }; alone = alone }
-      where
-        alone : (other : Reading) → IsReading file other → other ≡ Ok k
-        alone (Ok l) has = ap (λ (x : ShortKernel). Ok x) (one_kernel m l k (kernel_at has.module l has.tree has.kernel) (form_some m k h))
-        alone (Err q) (inl x) = absurd (not_refused q x)
-        alone (Err q) (inr (inl x)) = absurd (no_refusal q (refused_at q x))
-        alone (Err q) (inr (inr x)) =
-            let P : Module → Type 0 = λ n. IsKernelOf n k in
-            absurd (x.none k (subst P (one_tree x.module (tree_at x.module x.tree)) (form_some m k h)))
+  pub not_listed_at : (s : Stop) (r : Refusal) → s ≡ stop.Refused r → is_refusal s
+      → ((ys : List X) → is_list ys → notes.IsOnly ys (Err s))
+      → ((q : Refusal) → is_refusal (stop.Refused q)
+      → notes.IsOnlyRefusal q (let P : Result (List X) Stop = Err s in P))
+      → IsOne (Lists is_list is_refusal) (Err r)
+  not_listed_at s r is refused no_list place =
+      not_listed r (subst is_refusal is refused)
+      (λ ys h. subst (λ (x : Stop). notes.IsOnly ys (Err x)) is (no_list ys h))
+      (λ q h. subst (λ (x : Stop). notes.IsOnlyRefusal q (let P : Result (List X) Stop = Err x in P)) is (place q h))
 
-    pub not_short : form_of m ≡ None → IsOneReading file (Err no_module)
-    not_short h = record { reading = inr (inr (record { «module» = m; tree = has_tree; none = form_none m h; is = refl })); alone = alone }
-      where
-        alone : (other : Reading) → IsReading file other → other ≡ Err no_module
-        alone (Ok l) has = absurd (form_none m h l (kernel_at has.module l has.tree has.kernel))
-        alone (Err q) (inl x) = absurd (not_refused q x)
-        alone (Err q) (inr (inl x)) = absurd (no_refusal q (refused_at q x))
-        alone (Err q) (inr (inr x)) = err_is q no_module x.is
+pub short : (m : Module) (k : ShortKernel) → form_of m ≡ Some k → IsOne (Shortens m) (Ok k)
+short m k h = record { gives = form_some m k h; alone = alone }
+  where
+    alone : (other : Result ShortKernel Refusal) → Shortens m other → other ≡ Ok k
+    alone (Ok l) has = ap (λ (x : ShortKernel). Ok x) (one_kernel m l k has (form_some m k h))
+    alone (Err q) has = absurd (has.0 k (form_some m k h))
+
+pub not_short : (m : Module) → form_of m ≡ None → IsOne (Shortens m) (Err no_module)
+not_short m h = record { gives = (form_none m h, refl); alone = alone }
+  where
+    alone : (other : Result ShortKernel Refusal) → Shortens m other → other ≡ Err no_module
+    alone (Ok l) has = absurd (form_none m h l has)
+    alone (Err q) has = ap (λ (x : Refusal). Err x) (has.1)

@@ -1,27 +1,47 @@
--- What a call of a module's kernel comes to: a refusal of the module, the number of a refused item, or a report.
-use Rattle.std.specs.Prelude.{◌≡◌, ℕ, if◌then◌else◌, List, [], ◌∷◌, map, is_some, Some, Result, Ok, Err}
+-- What a request comes to, by the files that it loads: the source and what it stands for, the items, the outcome, the
+-- bytes.
+use Rattle.std.specs.Prelude.{◌≡◌, ℕ, Bool, if◌then◌else◌, List, [], ◌∷◌, map, Option, is_some, Some, Result, Ok, Err}
 use Rattle.std.specs.List.{zip}
-use Rattle.krn_base.specs.declared.kind.Kind.TheVariants.{Int64}
-use Rattle.krn_base.specs.declared.kind.ParamType.TheVariants.{Flat}
 use Rattle.krn_base.specs.declared.refusal.Refusal.{Refusal}
 use Rattle.view_places.specs.declared.shape.Array.{Array}
-use Rattle.eager_rules.specs.Eager.{outcome_of}
 use Rattle.eager_rules.specs.declared.outcome.Counts.{Counts}
 use Rattle.eager_rules.specs.declared.outcome.Outcome.{Outcome}
 use Rattle.call_items.specs.Binding.{BoundMeaning, bind}
 use Rattle.call_items.specs.declared.head.KernelHead.{KernelHead}
 use Rattle.call_report.specs.Report.{report_of}
 use Rattle.call_report.specs.declared.head.BufferHead.{BufferHead}
-use Rattle.pythran_main.specs.Kernel.{instance_of}
+use Rattle.host_io.specs.Files.{Held}
+use Rattle.pythran_main.specs.Kernel.{instance_of, outcome_on}
+use Rattle.pythran_main.specs.Loads.{Content, Whole, Longer, Load, AreLoaded, Agree}
 use Rattle.pythran_main.specs.Reading.{IsReading}
 use Rattle.pythran_main.specs.Request.{Asked}
-use Rattle.pythran_main.specs.declared.answer.Answer.{Answer}
-use Rattle.pythran_main.specs.declared.answer.Answer.TheVariants.{Refused, RefusedItem, Ran}
+use Rattle.pythran_main.specs.Saves.{Save}
 use Rattle.pythran_main.specs.declared.kernel.ShortKernel.{ShortKernel}
 
--- what binding needs of a kernel
-abbrev pub head_of : ShortKernel → KernelHead
-head_of k = record { name = k.name; params = (k.first, Flat Int64 1) ∷ (k.second, Flat Int64 1) ∷ [] }
+-- what a command writes on the output, whether that has a fault line, and what it stores
+pub record Product : Type 0 where
+  pub output : List ℕ
+  pub has_fault : Bool
+  pub saves : List Save
+
+-- an answer: the refusal of the source, the number of a refused item, a file above its limit, or a product
+pub data Answer : Type 0 where
+  Refused : Refusal → Answer
+  RefusedItem : ℕ → Answer
+  TooLong : Answer
+  Makes : Product → Answer
+
+-- ---- a source, and the product of a call
+
+-- a finished call: its outcome, and the counts where there are any
+pub record Run : Type 0 where
+  pub outcome : Outcome
+  pub counts : Option Counts
+
+-- what a source stands for: the heads of its kernels, and what a call of one of them gives
+pub record Source : Type 0 where
+  pub heads : List KernelHead
+  pub run : BoundMeaning → Run
 
 -- the names, kinds and shapes of a call's buffers
 abbrev pub buffer_head : List ℕ × Array → BufferHead
@@ -30,34 +50,69 @@ buffer_head (name, array) = record { name = name; kind = array.kind; shape = arr
 abbrev pub buffer_heads : List (List ℕ) → List Array → List BufferHead
 buffer_heads names arrays = map buffer_head (zip names arrays)
 
+-- the report of a call
+abbrev pub product_of : BoundMeaning → Run → Product
+product_of b run = record {
+  output = report_of (buffer_heads b.names b.arrays) run.outcome run.counts;
+  has_fault = is_some run.outcome.fault;
+  saves = [];
+}
+
+-- ---- the sources of `run`
+
+-- what binding needs of a short kernel
+abbrev pub head_of : ShortKernel → KernelHead
+head_of k = record { name = k.name; params = (instance_of k).params }
+
 -- one nest ran to its end, unless there was a fault
 abbrev pub counts_of : Outcome → Counts
 counts_of outcome = record { nests = if is_some outcome.fault then 0 else 1; temps = 0; parallel = 0; serial = 0 }
 
--- what evaluating the kernel eagerly on a bound call gives
-abbrev pub outcome_at : ShortKernel → BoundMeaning → Outcome
-outcome_at k b = outcome_of (instance_of k) b.arrays b.args
+-- evaluated eagerly, with those counts
+abbrev pub counted : Outcome → Run
+counted outcome = record { outcome = outcome; counts = Some (counts_of outcome) }
 
--- the report of that outcome and its counts
-abbrev pub report_at : List (List ℕ) → List Array → Outcome → List ℕ
-report_at names arrays outcome = report_of (buffer_heads names arrays) outcome (Some (counts_of outcome))
+abbrev pub source_of : ShortKernel → Source
+source_of k = record {
+  heads = head_of k ∷ [];
+  run = λ b. counted (outcome_on (instance_of k) b.arrays b.args);
+}
 
-abbrev pub run_answer : ShortKernel → Result BoundMeaning ℕ → Answer → Type 0
-run_answer k (Err n) a = a ≡ RefusedItem n
-run_answer k (Ok b) a =
-    a ≡ Ran (report_at b.names b.arrays (outcome_at k b)) (is_some (outcome_at k b).fault)
+abbrev pub source_in : Result ShortKernel Refusal → Result Source Refusal
+source_in (Ok k) = Ok (source_of k)
+source_in (Err r) = Err r
 
-abbrev pub module_answer : Result ShortKernel Refusal → Asked → Answer → Type 0
-module_answer (Err r) asked a = a ≡ Refused r
-module_answer (Ok k) asked a = run_answer k (bind (head_of k ∷ []) asked.kernel asked.items) a
+-- the bytes of a request's source stand for this to it
+abbrev pub IsSource : Asked → List ℕ → Result Source Refusal → Type 0
+IsSource asked file found = (read : Result ShortKernel Refusal) × IsReading file read × (found ≡ source_in read)
 
--- what a module's text and a request come to
-pub record Answers (file : List ℕ) (asked : Asked) (a : Answer) : Type 0 where
-  pub found : Result ShortKernel Refusal
-  pub reading : IsReading file found
-  pub answer : module_answer found asked a
+-- ---- the steps of an answer, each by what is loaded after it
 
--- They come to this answer, and to no other.
-pub record IsOneAnswer (file : List ℕ) (asked : Asked) (a : Answer) : Type 0 where
-  pub answers : Answers file asked a
-  pub alone : (other : Answer) → Answers file asked other → other ≡ a
+-- a source has at most so many bytes
+abbrev pub source_limit : ℕ
+source_limit = 1048576
+
+abbrev pub IsCalled : Source → Result BoundMeaning ℕ → List Load → Answer → Type 0
+IsCalled source (Err n) loads a = (loads ≡ []) × (a ≡ RefusedItem n)
+IsCalled source (Ok b) loads a = (loads ≡ []) × (a ≡ Makes (product_of b (source.run b)))
+
+abbrev pub IsFollowed : Asked → Result Source Refusal → List Load → Answer → Type 0
+IsFollowed asked (Err r) loads a = (loads ≡ []) × (a ≡ Refused r)
+IsFollowed asked (Ok source) loads a = IsCalled source (bind source.heads asked.kernel asked.items) loads a
+
+abbrev pub IsRead : Asked → Content → List Load → Answer → Type 0
+IsRead asked Longer loads a = (loads ≡ []) × (a ≡ TooLong)
+IsRead asked (Whole file) loads a = (found : Result Source Refusal) × IsSource asked file found
+    × IsFollowed asked found loads a
+
+-- a request comes to this answer with these loads, and no more are needed
+abbrev pub Answers : Asked → List Load → Answer → Type 0
+Answers asked [] a = ⊥
+Answers asked (load ∷ rest) a = (load.name ≡ asked.source) × (load.most ≡ source_limit) × IsRead asked load.gave rest a
+
+-- With what the names hold, a request comes to this answer, and to no other with loads that give the same.
+pub record Reaches (asked : Asked) (held : List ℕ → Held) (a : Answer) : Type 0 where
+  pub loads : List Load
+  pub loaded : AreLoaded held loads
+  pub answers : Answers asked loads a
+  pub alone : (others : List Load) (other : Answer) → Agree loads others → Answers asked others other → other ≡ a

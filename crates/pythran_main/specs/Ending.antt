@@ -1,111 +1,135 @@
--- How a command ends: its exit status, and what it leaves on the output and the error output.
-use Rattle.std.specs.Prelude.{◌≡◌, ℕ, ◌+◌, ◌≤◌, ◌⊎◌, Bool, true, false, List, ◌++◌, codes, take, length, Option, Some, None}
+-- How a command ends: its exit status, and what it leaves outside.
+use Rattle.std.specs.Prelude.{◌≡◌, ℕ, ◌⊎◌, Bool, if◌then◌else◌, List, ◌++◌, codes, Some, None}
 use Rattle.std.specs.Fmt.{decimal}
 use Rattle.host_io.specs.Counts.{Rose}
-use Rattle.host_io.specs.Files.{Held, IsContent, IsCutContent}
-use Rattle.host_io.specs.Sink.{appended}
+use Rattle.host_io.specs.Files.{Held}
 use Rattle.krn_base.specs.Rule.{rule_name}
 use Rattle.krn_base.specs.declared.refusal.Refusal.{Refusal}
-use Rattle.pythran_main.specs.Answer.{IsOneAnswer}
+use Rattle.pythran_main.specs.Answer.{Answer, Product, Reaches}
+use Rattle.pythran_main.specs.Answer as answer
 use Rattle.pythran_main.specs.Request.{Asked, request}
-use Rattle.pythran_main.specs.declared.answer.Answer.{Answer}
-use Rattle.pythran_main.specs.declared.answer.Answer.TheVariants as answer
-use Rattle.pythran_main.specs.declared.ending.Ending.{Ending}
-use Rattle.pythran_main.specs.declared.ending.Ending.TheVariants.{Reported, NoRequest, Refused, RefusedItem, LoadFailed, WriteFailed, Unheard, NoMemory, TooLong}
+use Rattle.pythran_main.specs.World.{Written, Filed, World, IsUntouched, Gained, Broke, AreKept, AreStored, BrokeOff}
+use Rattle.pythran_main.specs.declared.trouble.Trouble.{Trouble}
+use Rattle.pythran_main.specs.declared.trouble.Trouble.TheVariants.{NoRequest, Refused, RefusedItem, LoadFailed}
+use Rattle.pythran_main.specs.declared.trouble.Trouble.TheVariants.{WriteFailed, StoreFailed, Memory, TooLong}
 
--- a module has at most so many bytes
-abbrev pub module_limit : ℕ
-module_limit = 1048576
+-- 0 without a fault line, 1 with one
+abbrev pub status_at : Bool → ℕ
+status_at fault = if fault then 1 else 0
 
-abbrev pub status_of : Ending → ℕ
-status_of (Reported false) = 0
-status_of (Reported true) = 1
+-- the status that a trouble gives
+abbrev pub status_of : Trouble → ℕ
 status_of NoRequest = 2
-status_of Refused = 3
-status_of RefusedItem = 4
+status_of (Refused r) = 3
+status_of (RefusedItem n) = 4
 status_of LoadFailed = 5
 status_of WriteFailed = 5
-status_of Unheard = 5
-status_of NoMemory = 6
+status_of StoreFailed = 5
+status_of Memory = 6
 status_of TooLong = 7
 
--- the texts on the error output; each ends with a line feed
-abbrev pub refused_text : Refusal → List ℕ
-refused_text r = codes "refused " ++ (rule_name r.rule ++ (codes " " ++ (decimal r.loc.line ++ (codes ":" ++ (decimal r.loc.col ++ codes "\n")))))
+-- rule, line and column
+abbrev pub refusal_text : Refusal → List ℕ
+refusal_text r =
+    rule_name r.rule ++ (codes " " ++ (decimal r.loc.line ++ (codes ":" ++ (decimal r.loc.col ++ codes "\n"))))
 
-abbrev pub item_text : ℕ → List ℕ
-item_text n = codes "error item " ++ (decimal n ++ codes "\n")
+-- the text that a trouble puts on the error output, which ends with a line feed
+abbrev pub text_of : Trouble → List ℕ
+text_of NoRequest = codes "error words\n"
+text_of (Refused r) = codes "refused " ++ refusal_text r
+text_of (RefusedItem n) = codes "error item " ++ (decimal n ++ codes "\n")
+text_of LoadFailed = codes "error load\n"
+text_of WriteFailed = codes "error write\n"
+text_of StoreFailed = codes "error store\n"
+text_of Memory = codes "error memory\n"
+text_of TooLong = codes "error long\n"
 
--- a sink before and after a command: what was written, where that is told, and its count of faults
-pub record Written : Type 0 where
-  pub before : Option (List ℕ)
-  pub after : Option (List ℕ)
-  pub faults_before : ℕ
-  pub faults_after : ℕ
+-- The words are a request that comes to this answer.
+pub record IsAnswered (words : List (List ℕ)) (held : List ℕ → Held) (a : Answer) : Type 0 where
+  pub asked : Asked
+  pub asks : request words ≡ Some asked
+  pub reaches : Reaches asked held a
 
--- nothing was written; these bytes were; the count rose, and a first part of them was written
-abbrev pub IsUntouched : Written → Type 0
-IsUntouched w = w.after ≡ w.before
+-- Nothing was written on the output, and no file has changed.
+pub record IsStill (files : Filed) (out : Written) : Type 0 where
+  pub output : IsUntouched out
+  pub kept : AreKept files
 
-abbrev pub Gained : Written → List ℕ → Type 0
-Gained w text = w.after ≡ appended w.before text
+-- An answer ended the command before anything was written.
+pub record IsStopped (words : List (List ℕ)) (files : Filed) (out : Written) (a : Answer) : Type 0 where
+  pub answered : IsAnswered words files.before a
+  pub still : IsStill files out
 
-pub record Broke (w : Written) (text : List ℕ) : Type 0 where
-  pub rose : Rose w.faults_before w.faults_after
-  pub count : ℕ
-  pub part : w.after ≡ appended w.before (take count text)
+-- The words are no request.
+pub record IsNoRequest (words : List (List ℕ)) (files : Filed) (out : Written) : Type 0 where
+  pub none : request words ≡ None
+  pub still : IsStill files out
 
--- The world of a command: what the files held, their counts of faults before and after, the output and the error output.
-pub record World : Type 0 where
-  pub held : List ℕ → Held
-  pub faults_before : ℕ
-  pub faults_after : ℕ
-  pub out : Written
-  pub err : Written
+-- The words are a request, for which memory was wanting.
+pub record IsOutOfMemory (words : List (List ℕ)) (files : Filed) (out : Written) : Type 0 where
+  pub asked : Asked
+  pub asks : request words ≡ Some asked
+  pub still : IsStill files out
 
--- the requested module's file was loaded within its limit, and with it the request comes to this answer alone
-pub record Loaded (asked : Asked) (held : List ℕ → Held) (a : Answer) : Type 0 where
-  pub file : List ℕ
-  pub content : IsContent (held asked.module_path) file
-  pub within : length file ≤ module_limit
-  pub answer : IsOneAnswer file asked a
+-- The words are a request, and the files' count of faults rose.
+pub record IsNotLoaded (words : List (List ℕ)) (files : Filed) (out : Written) : Type 0 where
+  pub asked : Asked
+  pub asks : request words ≡ Some asked
+  pub rose : Rose files.faults_before files.faults_after
+  pub still : IsStill files out
 
--- a file is longer than a module may be
-pub record IsTooLong (file : Held) : Type 0 where
-  pub first : List ℕ
-  pub cut : IsCutContent file module_limit first
-  pub length_is : length first ≡ module_limit + 1
+-- The output's count of faults rose; a first part of the request's output is there, and nothing is stored.
+pub record IsNotWritten (words : List (List ℕ)) (files : Filed) (out : Written) : Type 0 where
+  pub product : Product
+  pub answered : IsAnswered words files.before (answer.Makes product)
+  pub broke : Broke out product.output
+  pub kept : AreKept files
 
--- an error text broke off; the output is untouched, or a report broke off there too
-pub record IsUnheard (out err : Written) : Type 0 where
-  pub text : List ℕ
-  pub broke : Broke err text
-  pub report : List ℕ
-  pub output : IsUntouched out ⊎ Broke out report
+-- The files' count of faults rose; the whole output is there, and the files before the failed one are stored.
+pub record IsNotStored (words : List (List ℕ)) (files : Filed) (out : Written) : Type 0 where
+  pub product : Product
+  pub answered : IsAnswered words files.before (answer.Makes product)
+  pub output : Gained out product.output
+  pub broke_off : BrokeOff files product.saves
 
--- What each ending of a request says of the world.
-abbrev pub Serves : Asked → World → Ending → Type 0
-Serves asked w (Reported fault) = (text : List ℕ) × Loaded asked w.held (answer.Ran text fault) × Gained w.out text × IsUntouched w.err
-Serves asked w NoRequest = ⊥
-Serves asked w Refused = (r : Refusal) × Loaded asked w.held (answer.Refused r) × IsUntouched w.out × Gained w.err (refused_text r)
-Serves asked w RefusedItem = (n : ℕ) × Loaded asked w.held (answer.RefusedItem n) × IsUntouched w.out × Gained w.err (item_text n)
-Serves asked w LoadFailed = Rose w.faults_before w.faults_after × IsUntouched w.out × Gained w.err (codes "error load\n")
-Serves asked w WriteFailed =
-    (text : List ℕ) × (fault : Bool) × Loaded asked w.held (answer.Ran text fault) × Broke w.out text × Gained w.err (codes "error write\n")
-Serves asked w Unheard = IsUnheard w.out w.err
-Serves asked w NoMemory = IsUntouched w.out × Gained w.err (codes "error memory\n")
-Serves asked w TooLong = IsTooLong (w.held asked.module_path) × IsUntouched w.out × Gained w.err (codes "error long\n")
+-- the cause of a trouble, and what is written and stored where it comes
+abbrev pub Causes : List (List ℕ) → Filed → Written → Trouble → Type 0
+Causes words files out NoRequest = IsNoRequest words files out
+Causes words files out (Refused r) = IsStopped words files out (answer.Refused r)
+Causes words files out (RefusedItem n) = IsStopped words files out (answer.RefusedItem n)
+Causes words files out LoadFailed = IsNotLoaded words files out
+Causes words files out WriteFailed = IsNotWritten words files out
+Causes words files out StoreFailed = IsNotStored words files out
+Causes words files out Memory = IsOutOfMemory words files out
+Causes words files out TooLong = IsStopped words files out answer.TooLong
 
--- how a command without a request ends
-abbrev pub Declines : World → Ending → Type 0
-Declines w NoRequest = IsUntouched w.out × Gained w.err (codes "error words\n")
-Declines w Unheard = IsUnheard w.out w.err
-Declines w _ = ⊥
+-- A trouble has its cause, and its text is on the error output.
+pub record IsTold (words : List (List ℕ)) (w : World) (t : Trouble) : Type 0 where
+  pub cause : Causes words w.files w.out t
+  pub told : Gained w.err (text_of t)
 
--- how a command ends, by what its words ask for
-abbrev pub EndsBy : Option Asked → World → Ending → Type 0
-EndsBy None w e = Declines w e
-EndsBy (Some asked) w e = Serves asked w e
+-- A trouble has its cause, and its text broke off on the error output.
+pub record IsUnheard (words : List (List ℕ)) (w : World) : Type 0 where
+  pub trouble : Trouble
+  pub cause : Causes words w.files w.out trouble
+  pub broke : Broke w.err (text_of trouble)
 
-pub record Ends (words : List (List ℕ)) (w : World) (e : Ending) : Type 0 where
-  pub is : EndsBy (request words) w e
+-- The request's output was written and its files were stored, with the status of its fault; nothing is on the error
+-- output.
+pub record IsDone (words : List (List ℕ)) (w : World) (status : ℕ) : Type 0 where
+  pub product : Product
+  pub answered : IsAnswered words w.files.before (answer.Makes product)
+  pub status_is : status ≡ status_at product.has_fault
+  pub output : Gained w.out product.output
+  pub stored : AreStored w.files product.saves
+  pub quiet : IsUntouched w.err
+
+-- A trouble was told, with its status.
+pub record IsEnded (words : List (List ℕ)) (w : World) (status : ℕ) : Type 0 where
+  pub trouble : Trouble
+  pub told : IsTold words w trouble
+  pub status_is : status ≡ status_of trouble
+
+-- every way in which a command ends
+abbrev pub Ends : List (List ℕ) → World → ℕ → Type 0
+Ends words w status = IsDone words w status ⊎ (IsEnded words w status ⊎ ((status ≡ 5) × IsUnheard words w))

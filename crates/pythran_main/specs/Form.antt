@@ -1,5 +1,6 @@
 -- The only kernel whose module a tree may be, by its parts.
-use Rattle.std.specs.Prelude.{ℕ, Bool, true, false, ◌&&◌, if◌then◌else◌, List, [], ◌∷◌, Option, Some, None, option_and_then}
+use Rattle.std.specs.Prelude.{ℕ, Bool, true, false, ◌&&◌, if◌then◌else◌, List, [], ◌∷◌, Option, Some, None}
+use Rattle.std.specs.Prelude.{option_and_then}
 use Rattle.std.specs.Str.{bytes_eq}
 use Rattle.krn_base.specs.declared.operation.BinOp.{BinOp}
 use Rattle.krn_base.specs.declared.place.Loc.{Loc}
@@ -67,7 +68,8 @@ abbrev pub returned : List Stmt → Option Operation
 returned body = option_and_then operation_in (option_and_then value_in (only body))
 
 abbrev pub number_in : Name → Name → Name → Option ℕ
-number_in first second x = if bytes_eq x.text first.text then Some 0 else (if bytes_eq x.text second.text then Some 1 else None)
+number_in first second x =
+    if bytes_eq x.text first.text then Some 0 else (if bytes_eq x.text second.text then Some 1 else None)
 
 abbrev pub numbered : Function → Name → Name → Operation → Option ℕ → Option ℕ → Option ShortKernel
 numbered f first second o (Some left) (Some right) = Some (record {

@@ -1,13 +1,14 @@
 pub mod Answer
-pub mod Delivered
 pub mod Ending
 pub mod Form
 pub mod Kernel
+pub mod Layers
+pub mod Loads
 pub mod Module
 pub mod Operands
-pub mod Prepared
 pub mod Reading
 pub mod Request
-pub mod Rows
+pub mod Saves
+pub mod Steps
 pub mod Theorem
 pub mod World

@@ -1,6 +1,8 @@
--- The modules that are accepted (this project's form): no import, one function of two parameters whose body is one `return` of the
--- sum or the product of two of them, and one note, which exports the function for two int64 arrays of rank 1.
-use Rattle.std.specs.Prelude.{◌≡◌, ℕ, ◌≤◌, ◌==◌, Bool, true, false, ◌&&◌, not, if◌then◌else◌, List, [], ◌∷◌, ◌++◌, codes}
+-- The modules that are accepted (this project's form): no import, one function of two parameters whose body is one
+-- `return` of the sum or the product of two of them, and one note, which exports the function for two int64 arrays of
+-- rank 1.
+use Rattle.std.specs.Prelude.{◌≡◌, ℕ, ◌≤◌, ◌==◌, Bool, true, false, ◌&&◌, not, if◌then◌else◌, List, [], ◌∷◌, ◌++◌}
+use Rattle.std.specs.Prelude.{codes}
 use Rattle.std.specs.List.{list_any}
 use Rattle.std.specs.Str.{bytes_eq}
 use Rattle.krn_base.specs.declared.operation.BinOp.{BinOp}
@@ -56,7 +58,8 @@ abbrev pub function_of : ShortKernel → Places → Function
 function_of k places = record {
   name = record { text = k.name; loc = places.name };
   params = record { text = k.first; loc = places.first } ∷ record { text = k.second; loc = places.second } ∷ [];
-  body = s.Return places.returns (e.Chain (operand k k.left places.left) ((k.op, k.at, operand k k.right places.right) ∷ []) ∷ []) ∷ [];
+  body = s.Return places.returns (e.Chain (operand k k.left places.left) ((k.op, k.at, operand k k.right places.right)
+      ∷ []) ∷ []) ∷ [];
   weight = k.weight;
 }
 

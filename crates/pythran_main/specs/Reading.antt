@@ -1,53 +1,67 @@
--- What the bytes of a module are read as: a kernel, or the refusal of the first rule that refuses them.
-use Rattle.std.specs.Prelude.{◌≡◌, ℕ, ◌⊎◌, List, Result, Ok, Err}
+-- What the bytes of a module are read as: a kernel, or the refusal of the first layer that refuses them.
+use Rattle.std.specs.Prelude.{◌≡◌, ℕ, List, Result, Ok, Err}
 use Rattle.krn_base.specs.declared.refusal.Refusal.{Refusal}
 use Rattle.krn_base.specs.declared.refusal.Rule.TheVariants.{Profile}
 use Rattle.krn_base.specs.declared.refusal.Stop.TheVariants as stop
+use Rattle.export_sig.specs.Directives.{AreDirectives, IsDirectiveRefusal}
+use Rattle.export_sig.specs.Exports.{AreExports, IsExportRefusal}
+use Rattle.export_sig.specs.declared.directive.Directive.{Directive}
+use Rattle.export_sig.specs.declared.signature.Signature.{Signature}
+use Rattle.krn_base.specs.declared.refusal.Stop.{Stop}
 use Rattle.py_lex.specs.Lexed as lexed
 use Rattle.py_lex.specs.declared.token.Tokens.{Tokens}
 use Rattle.py_parse.specs.Parsed as parsed
 use Rattle.py_parse.specs.declared.tree.Module.{Module}
+use Rattle.pythran_main.specs.Layers.{Then, IsOne}
 use Rattle.pythran_main.specs.Module.{IsKernelOf}
 use Rattle.pythran_main.specs.declared.kernel.ShortKernel.{ShortKernel}
 
--- The bytes have these tokens, and the tokens this tree.
-pub record HasTree (file : List ℕ) (m : Module) : Type 0 where
-  pub tokens : Tokens
-  pub lexed : lexed.IsLexed file tokens
-  pub tree : parsed.IsTree file tokens m
+-- the bytes have these tokens, or none
+abbrev pub Lexes : List ℕ → Result Tokens Refusal → Type 0
+Lexes file (Ok tokens) = lexed.IsLexed file tokens
+Lexes file (Err r) = lexed.IsRefusal file (stop.Refused r)
+
+-- the tokens have this tree, or none
+abbrev pub Parses : List ℕ → Tokens → Result Module Refusal → Type 0
+Parses file tokens (Ok tree) = parsed.IsTree file tokens tree
+Parses file tokens (Err r) = parsed.IsRefusal file tokens (stop.Refused r)
+
+-- this list, or this refusal of what has none
+abbrev pub Lists : {X : Type 0} → (List X → Type 0) → (Stop → Type 0) → Result (List X) Refusal → Type 0
+Lists is_list is_refusal (Ok xs) = is_list xs
+Lists is_list is_refusal (Err r) = is_refusal (stop.Refused r)
+
+-- the tree's export notes have these signatures, or one of them has none
+abbrev pub Exports : Module → Result (List Signature) Refusal → Type 0
+Exports tree = Lists (AreExports tree) (IsExportRefusal tree)
+
+-- the tree's `omp` notes have these directives, or one of them has none
+abbrev pub Directs : Module → Result (List Directive) Refusal → Type 0
+Directs tree = Lists (AreDirectives tree) (IsDirectiveRefusal tree)
 
 -- the refusal of a tree that is of no kernel
 abbrev pub no_module : Refusal
 no_module = record { rule = Profile; loc = record { line = 1; col = 1 } }
 
--- The bytes are a module of this kernel.
-pub record HasKernel (file : List ℕ) (k : ShortKernel) : Type 0 where
-  pub «module» : Module
-  pub tree : HasTree file «module»
-  pub kernel : IsKernelOf «module» k
+-- the tree is that of this kernel, or of none
+abbrev pub Shortens : Module → Result ShortKernel Refusal → Type 0
+Shortens tree (Ok k) = IsKernelOf tree k
+Shortens tree (Err r) = ((k : ShortKernel) → IsKernelOf tree k → ⊥) × (r ≡ no_module)
 
--- There are no tokens.
-abbrev pub IsNotLexed : List ℕ → Refusal → Type 0
-IsNotLexed file r = lexed.IsRefusal file (stop.Refused r)
+-- the layers behind the signatures, the tree and the tokens
+abbrev pub IsExportedReading : Module → Result ShortKernel Refusal → Type 0
+IsExportedReading tree = Then (Directs tree) (λ directives. Shortens tree)
 
--- There are tokens, and they have no tree.
-pub record IsNotParsed (file : List ℕ) (r : Refusal) : Type 0 where
-  pub tokens : Tokens
-  pub lexed : lexed.IsLexed file tokens
-  pub refused : parsed.IsRefusal file tokens (stop.Refused r)
+abbrev pub IsTreeReading : Module → Result ShortKernel Refusal → Type 0
+IsTreeReading tree = Then (Exports tree) (λ signatures. IsExportedReading tree)
 
--- There is a tree, and it is of no kernel.
-pub record IsNotShort (file : List ℕ) (r : Refusal) : Type 0 where
-  pub «module» : Module
-  pub tree : HasTree file «module»
-  pub none : (k : ShortKernel) → IsKernelOf «module» k → ⊥
-  pub is : r ≡ no_module
+abbrev pub IsParsedReading : List ℕ → Tokens → Result ShortKernel Refusal → Type 0
+IsParsedReading file tokens = Then (Parses file tokens) IsTreeReading
 
+-- all layers, in their order
 abbrev pub IsReading : List ℕ → Result ShortKernel Refusal → Type 0
-IsReading file (Ok k) = HasKernel file k
-IsReading file (Err r) = IsNotLexed file r ⊎ (IsNotParsed file r ⊎ IsNotShort file r)
+IsReading file = Then (Lexes file) (IsParsedReading file)
 
--- This is how the bytes are read, and nothing else is.
-pub record IsOneReading (file : List ℕ) (found : Result ShortKernel Refusal) : Type 0 where
-  pub reading : IsReading file found
-  pub alone : (other : Result ShortKernel Refusal) → IsReading file other → other ≡ found
+-- the bytes are read so, and in no other way
+abbrev pub IsOneReading : List ℕ → Result ShortKernel Refusal → Type 0
+IsOneReading file = IsOne (IsReading file)

@@ -1,47 +1,41 @@
-ghost use Rattle.std.specs.Prelude.{◌≡◌, ◌+◌, ◌<◌, ◌≤◌, ◌^◌, [], ◌∷◌, List, map, length, is_some, string_bytes, Result, Ok, Err, IfOk};
-ghost use Rattle.std.specs.List.{zip};
+ghost use Rattle.std.specs.Prelude.{◌≡◌, ◌<◌, ◌≤◌, ◌^◌, [], ◌∷◌, length, IfOk};
 ghost use Rattle.call_items.specs.Binding.{bind, meaning as bound_meaning};
-ghost use Rattle.eager_rules.specs.Eager.{outcome_of};
-ghost use Rattle.eager_rules.specs.State.{bound_to};
-ghost use Rattle.pythran_main.specs.Answer.{IsOneAnswer};
+ghost use Rattle.pythran_main.specs.Answer.{IsCalled, product_of, source_of};
 ghost use Rattle.pythran_main.specs.Answer as spec;
-ghost use Rattle.pythran_main.specs.Kernel.{instance_of};
-ghost use Rattle.pythran_main.specs.Request.{meaning};
-ghost use Rattle.pythran_main.specs.Rows.{IsRowPair};
+ghost use Rattle.pythran_main.specs.Loads.{Whole};
+ghost use Rattle.pythran_main.specs.Request.{meaning, texts};
+ghost use Rattle.pythran_main.specs.Steps.{product, Prepared, IsOneAnswer};
 
 use crate::kernel::ShortKernel;
 use crate::module_form::read_module;
-use crate::nest::run;
+use crate::program::{params_of, run};
 use crate::request::Request;
+use crate::saved_file::SavedFile;
+use crate::trouble::Trouble;
 use call_items::{BoundCall, KernelHead, bind};
 use call_report::{BufferHead, report};
-use eager_rules::{Call, Counts, Outcome};
-use krn_base::{Kind, NoMemory, ParamType, Refusal, Seq, Text};
+use eager_rules::{Counts, Outcome};
+use krn_base::{NoMemory, Seq, Text};
 use std::alloc::{AllocError, Global};
 use view_places::Array;
 
-/// What a request comes to once its module is loaded.
+/// What a command writes and stores, ready before its first byte is out.
 #[derive(Debug, PartialEq, Eq, Drop)]
-pub enum Answer {
-    /// The module is refused.
-    Refused(Refusal),
-    /// The item with this number is refused.
-    RefusedItem(u32),
-    /// The kernel ran: the report, and whether it has a fault.
-    Ran(Seq<u8>, bool),
+pub struct Report {
+    pub text: Seq<u8>,
+    /// Whether the text has a fault line.
+    pub has_fault: bool,
+    /// The files to be stored, in order.
+    pub saves: Seq<SavedFile>,
 }
 
 /// The kernel's name and parameters.
 fn head_of(alloc: Global, kernel: &ShortKernel) -> Result<KernelHead, AllocError>
     ensures { IfOk result (λ head. head ≡ spec.head_of kernel.now) }
 {
-    let row = ParamType::Flat(Kind::Int64, 1);
-    let first = (kernel.first.try_copy()?, row);
-    let second = (kernel.second.try_copy()?, row);
-    let params = Seq::from_vec(vec![in alloc; first, second]?);
     Ok(KernelHead {
         name: kernel.name.try_copy()?,
-        params,
+        params: params_of(alloc, kernel)?,
     })
 }
 
@@ -73,6 +67,7 @@ fn buffer_heads(
     Ok(heads)
 }
 
+/// The counts of a call that ran one nest to its end, or none of it where there was a fault.
 fn counts_of(outcome: &Outcome) -> Counts
     ensures { result ≡ spec.counts_of outcome.now }
 {
@@ -85,18 +80,19 @@ fn counts_of(outcome: &Outcome) -> Counts
 }
 
 /// The report of the kernel's run on a bound call.
-fn run_bound(alloc: Global, kernel: &ShortKernel, bound: BoundCall) -> Result<Answer, NoMemory>
-    requires rows { IsRowPair (map bound_to bound.call.args) }
-    requires left { kernel.now.left ≤ 1 }
-    requires right { kernel.now.right ≤ 1 }
-    ensures { IfOk result (λ answer. spec.run_answer kernel.now (Ok (bound_meaning bound)) answer) }
+fn run_bound(alloc: Global, kernel: &ShortKernel, bound: BoundCall) -> Result<Report, NoMemory>
+    ensures { IfOk result (λ made. product made ≡
+        product_of (bound_meaning bound) ((source_of kernel.now).run (bound_meaning bound))) }
 {
     let BoundCall { names, call, .. } = bound;
-    let Call { buffers, args } = call;
-    let heads = buffer_heads(alloc, names.as_slice(), buffers.as_slice())?;
-    let outcome = run(alloc, kernel, buffers, args.as_slice())?;
+    let heads = buffer_heads(alloc, names.as_slice(), call.buffers.as_slice())?;
+    let outcome = run(alloc, kernel, &call)?;
     let text = report(alloc, heads.as_slice(), &outcome, Some(counts_of(&outcome)))?;
-    Ok(Answer::Ran(Seq::from_vec(text), outcome.fault.is_some()))
+    Ok(Report {
+        text: Seq::from_vec(text),
+        has_fault: outcome.fault.is_some(),
+        saves: Seq::from_vec(Vec::new(alloc)),
+    })
 }
 
 /// What a request of this kernel comes to.
@@ -104,27 +100,28 @@ fn answer_kernel(
     alloc: Global,
     kernel: &ShortKernel,
     request: &Request<'_>,
-) -> Result<Answer, NoMemory>
+) -> Result<Report, Trouble>
     requires items { length request.now.items.now < 2 ^ 31 }
-    requires left { kernel.now.left ≤ 1 }
-    requires right { kernel.now.right ≤ 1 }
-    ensures { IfOk result (λ answer. spec.run_answer kernel.now (bind (spec.head_of kernel.now ∷ []) request.now.kernel.now (map string_bytes request.now.items.now)) answer) }
+    ensures { Prepared (IsCalled (source_of kernel.now)
+        (bind (spec.head_of kernel.now ∷ []) request.now.kernel.now (texts request.now.items.now)) []) result }
 {
     let heads = heads_of(alloc, kernel)?;
     match bind(alloc, heads.as_slice(), request.kernel, request.items)? {
-        Ok(bound) => run_bound(alloc, kernel, bound),
-        Err(number) => Ok(Answer::RefusedItem(number)),
+        Ok(bound) => Ok(run_bound(alloc, kernel, bound)?),
+        Err(number) => Err(Trouble::RefusedItem(number)),
     }
 }
 
-/// What a request comes to with this module's text.
-pub fn answer_request(alloc: Global, file: &[u8], request: &Request<'_>) -> Result<Answer, NoMemory>
-    requires file { length file.now ≤ 2 ^ 31 }
-    requires items { length request.now.items.now < 2 ^ 31 }
-    ensures { IfOk result (IsOneAnswer file.now (meaning request.now)) }
+/// What a request comes to with this source's bytes. Items are numbered within 32 bits.
+pub fn answer_request(alloc: Global, file: &[u8], request: &Request<'_>) -> Result<Report, Trouble>
+    requires { length file.now ≤ 2 ^ 31 }
+    ensures { Prepared (IsOneAnswer (meaning request.now) (Whole file.now)) result }
 {
+    if request.items.len() >= 1 << 31 {
+        return Err(Trouble::Memory);
+    }
     match read_module(alloc, file)? {
         Ok(kernel) => answer_kernel(alloc, &kernel, request),
-        Err(refusal) => Ok(Answer::Refused(refusal)),
+        Err(refusal) => Err(Trouble::Refused(refusal)),
     }
 }

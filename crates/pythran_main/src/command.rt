@@ -1,66 +1,73 @@
-ghost use Rattle.std.specs.Prelude.{◌≡◌, ℕ, ◌<◌, ◌≤◌, ◌⊎◌, List, codes, length, Some, None};
-ghost use Rattle.host_io.specs.Counts.{Rose};
-ghost use Rattle.host_io.specs.Files.{Bytes};
-ghost use Rattle.pythran_main.specs.Answer.{Answers};
-ghost use Rattle.pythran_main.specs.Ending.{Ends, Serves, IsUntouched, Gained, module_limit};
-ghost use Rattle.pythran_main.specs.Request.{Asked, request, meaning, texts};
-ghost use Rattle.pythran_main.specs.Theorem.{IsDone, IsRefused, IsItemRefused, IsFailed, IsLong, NoneRose, Comes};
-ghost use Rattle.pythran_main.specs.World.{sink, world};
-ghost use Rattle.pythran_main.specs.declared.answer.Answer.{Answer};
+ghost use Rattle.std.specs.Prelude.{◌≡◌, ℕ, ◌≤◌, List, Some};
+ghost use Rattle.krn_base.specs.declared.refusal.Refusal.{Refusal};
+ghost use Rattle.pythran_main.specs.Ending.{Ends, IsDone, IsTold};
+ghost use Rattle.pythran_main.specs.Request.{request as asked_by, meaning, texts};
+ghost use Rattle.pythran_main.specs.Steps.{Works};
+ghost use Rattle.pythran_main.specs.Theorem.{IsFailed, IsDeclined, IsComplete};
+ghost use Rattle.pythran_main.specs.World.{files_of, sink_of, world};
 
-use crate::deliver::{deliver, tell};
-use crate::ending::Ending;
-use crate::load::{Prepared, prepare};
+use crate::deliver::{deliver, tell_trouble};
+use crate::load::prepare;
 use crate::request::{Request, read_request};
+use crate::trouble::Trouble;
 use host_io::{Files, Gate, Sink};
 use std::alloc::Global;
 use std::thread::Threads;
 
-/// Serves a request.
-fn serve_request<F: Files, O: Sink, E: Sink>(
+/// Serves a request, up to the text of a trouble. Says whether the report has a fault line.
+fn serve_request<F: Files, O: Sink>(
     alloc: Global,
     request: &Request<'_>,
     files: &mut F,
     out: &mut O,
-    err: &mut E,
-) -> Ending
-    ensures serves { Serves (meaning request.now) (world (F.held files.old) (F.faults files.old) (F.faults files.new)
-        (sink (O.written out.old) (O.written out.new) (O.faults out.old) (O.faults out.new))
-        (sink (E.written err.old) (E.written err.new) (E.faults err.old) (E.faults err.new))) result }
-    ensures kept { (other : List ℕ) → F.held files.new other ≡ F.held files.old other }
+) -> Result<bool, Trouble>
+    ensures { (words : List (List ℕ)) → asked_by words ≡ Some (meaning request.now) →
+        Works words (files_of F.Files files.old files.new) (sink_of O.Sink out.old out.new) result }
 {
     match prepare(alloc, request, files) {
-        Prepared::Answered(answer) => deliver(alloc, answer, out, err),
-        Prepared::LoadFailed => tell(err, b"error load\n", Ending::LoadFailed),
-        Prepared::TooLong => tell(err, b"error long\n", Ending::TooLong),
-        Prepared::NoMemory => tell(err, b"error memory\n", Ending::NoMemory),
+        Ok(report) => deliver(&report, files, out),
+        Err(trouble) => Err(trouble),
     }
 }
 
-/// Serves the words, and says how that ended.
-fn serve<F: Files, O: Sink, E: Sink>(
+/// Serves the words, up to the text of a trouble.
+fn serve<F: Files, O: Sink>(
+    alloc: Global,
+    words: &[String],
+    files: &mut F,
+    out: &mut O,
+) -> Result<bool, Trouble>
+    ensures { Works (texts words.now) (files_of F.Files files.old files.new) (sink_of O.Sink out.old out.new) result }
+{
+    match read_request(words) {
+        Some(request) => serve_request(alloc, &request, files, out),
+        None => Err(Trouble::NoRequest),
+    }
+}
+
+/// Serves the words, and says the exit status.
+fn end<F: Files, O: Sink, E: Sink>(
     alloc: Global,
     words: &[String],
     files: &mut F,
     out: &mut O,
     err: &mut E,
-) -> Ending
-    ensures ends { Ends (texts words.now) (world (F.held files.old) (F.faults files.old) (F.faults files.new)
-        (sink (O.written out.old) (O.written out.new) (O.faults out.old) (O.faults out.new))
-        (sink (E.written err.old) (E.written err.new) (E.faults err.old) (E.faults err.new))) result }
-    ensures kept { (other : List ℕ) → F.held files.new other ≡ F.held files.old other }
+) -> u8
+    ensures { Ends (texts words.now)
+        (world F.Files files.old files.new O.Sink out.old out.new E.Sink err.old err.new) result }
 {
-    match read_request(words) {
-        Some(request) => serve_request(alloc, &request, files, out, err),
-        None => tell(err, b"error words\n", Ending::NoRequest),
+    match serve(alloc, words, files, out) {
+        Ok(has_fault) => u8::from(has_fault),
+        Err(trouble) => tell_trouble(alloc, trouble, err),
     }
 }
 
-/// Runs a command: reads its words, which exclude the program's name, and writes its report on `out` or its error text on `err`.
+/// Runs a command: reads its words, which exclude the program's name, and writes its report on `out` or its error text
+/// on `err`.
 ///
-/// The exit status is 0 for a report without a fault and 1 for one with a fault; 2 where the words are no request; 3 where the module
-/// is refused; 4 where an item is; 5 where a load or a write failed; 6 where memory was wanting; 7 where the module is longer than
-/// 1,048,576 bytes.
+/// The exit status is 0 for a report without a fault and 1 for one with a fault; 2 where the words are no request; 3
+/// where the module is refused; 4 where an item is; 5 where a load or a write failed; 6 where memory was wanting; 7
+/// where the module is longer than 1,048,576 bytes.
 pub fn pythran<R: Threads + Sync, F: Files, O: Sink, E: Sink, G: Gate + Sync>(
     _rt: &R,
     alloc: Global,
@@ -70,62 +77,41 @@ pub fn pythran<R: Threads + Sync, F: Files, O: Sink, E: Sink, G: Gate + Sync>(
     err: &mut E,
     _gate: &G,
 ) -> u8
-    // 0 and 1: the report of the eager outcome was written whole; 1 exactly for a fault.
-    ensures done { (result ≡ 0) ⊎ (result ≡ 1) → IsDone (texts words.now) (F.held files.old) result
-        (sink (O.written out.old) (O.written out.new) (O.faults out.old) (O.faults out.new))
-        (sink (E.written err.old) (E.written err.new) (E.faults err.old) (E.faults err.new)) }
+    // 0 and 1: all that the request makes is written and stored; 1 exactly for a fault.
+    ensures done { result ≤ 1 → IsDone (texts words.now)
+        (world F.Files files.old files.new O.Sink out.old out.new E.Sink err.old err.new) result }
 
-    // 2: exactly where the words are no request, unless the error text broke off.
-    ensures no_request { result ≡ 2 → (request (texts words.now) ≡ None)
-        × IsUntouched (sink (O.written out.old) (O.written out.new) (O.faults out.old) (O.faults out.new))
-        × Gained (sink (E.written err.old) (E.written err.new) (E.faults err.old) (E.faults err.new)) (codes "error words\n") }
-    ensures words { request (texts words.now) ≡ None → (result ≡ 2) ⊎ ((result ≡ 5) × Rose (E.faults err.old) (E.faults err.new)) }
+    // 2: the words are no request; and then it comes, unless the error text broke off.
+    ensures no_request { result ≡ 2 → IsTold (texts words.now)
+        (world F.Files files.old files.new O.Sink out.old out.new E.Sink err.old err.new) Trouble.NoRequest }
+    ensures words { IsDeclined (texts words.now)
+        (world F.Files files.old files.new O.Sink out.old out.new E.Sink err.old err.new) result }
 
-    // 3: only where the module was loaded and is refused, with its text.
-    ensures refused { result ≡ 3 → IsRefused (texts words.now) (F.held files.old)
-        (sink (O.written out.old) (O.written out.new) (O.faults out.old) (O.faults out.new))
-        (sink (E.written err.old) (E.written err.new) (E.faults err.old) (E.faults err.new)) }
+    // 3: the source is refused, by the refusal that is told.
+    ensures refused { result ≡ 3 → (refusal : Refusal) × IsTold (texts words.now)
+        (world F.Files files.old files.new O.Sink out.old out.new E.Sink err.old err.new) (Trouble.Refused refusal) }
 
-    // 4: only where the module stands and an item is refused, with its number.
-    ensures item { result ≡ 4 → IsItemRefused (texts words.now) (F.held files.old)
-        (sink (O.written out.old) (O.written out.new) (O.faults out.old) (O.faults out.new))
-        (sink (E.written err.old) (E.written err.new) (E.faults err.old) (E.faults err.new)) }
+    // 4: the source stands and an item is refused, by the number that is told.
+    ensures item { result ≡ 4 → (number : ℕ) × IsTold (texts words.now)
+        (world F.Files files.old files.new O.Sink out.old out.new E.Sink err.old err.new) (Trouble.RefusedItem number) }
 
-    // 5: only where a count of faults rose in this call, with what was written before.
-    ensures failed { result ≡ 5 → IsFailed (texts words.now) (F.held files.old) (F.faults files.old) (F.faults files.new)
-        (sink (O.written out.old) (O.written out.new) (O.faults out.old) (O.faults out.new))
-        (sink (E.written err.old) (E.written err.new) (E.faults err.old) (E.faults err.new)) }
+    // 5: a count of faults rose in this call, and a first part of what was due is there.
+    ensures failed { result ≡ 5 → IsFailed (texts words.now)
+        (world F.Files files.old files.new O.Sink out.old out.new E.Sink err.old err.new) }
 
-    // 6: nothing is on the output.
-    ensures memory { result ≡ 6 → IsUntouched (sink (O.written out.old) (O.written out.new) (O.faults out.old) (O.faults out.new))
-        × Gained (sink (E.written err.old) (E.written err.new) (E.faults err.old) (E.faults err.new)) (codes "error memory\n") }
+    // 6: nothing is written or stored.
+    ensures memory { result ≡ 6 → IsTold (texts words.now)
+        (world F.Files files.old files.new O.Sink out.old out.new E.Sink err.old err.new) Trouble.Memory }
 
-    // 7: only where the module is longer than its limit.
-    ensures long { result ≡ 7 → IsLong (texts words.now) (F.held files.old)
-        (sink (O.written out.old) (O.written out.new) (O.faults out.old) (O.faults out.new))
-        (sink (E.written err.old) (E.written err.new) (E.faults err.old) (E.faults err.new)) }
+    // 7: a file is longer than its limit.
+    ensures long { result ≡ 7 → IsTold (texts words.now)
+        (world F.Files files.old files.new O.Sink out.old out.new E.Sink err.old err.new) Trouble.TooLong }
 
     ensures statuses { result ≤ 7 }
 
-    // Where no count rose and the module's file is told: each answer comes where it is the request's, or memory was wanting.
-    ensures complete { (asked : Asked) (file : List ℕ) (answer : Answer) → request (texts words.now) ≡ Some asked
-        → F.held files.old asked.module_path ≡ Bytes file → length file ≤ module_limit
-        → NoneRose (F.faults files.old) (F.faults files.new)
-        (sink (O.written out.old) (O.written out.new) (O.faults out.old) (O.faults out.new))
-        (sink (E.written err.old) (E.written err.new) (E.faults err.old) (E.faults err.new))
-        → Answers file asked answer
-        → Comes answer result
-        (sink (O.written out.old) (O.written out.new) (O.faults out.old) (O.faults out.new))
-        (sink (E.written err.old) (E.written err.new) (E.faults err.old) (E.faults err.new)) ⊎ (result ≡ 6) }
-    ensures complete_long { (asked : Asked) (file : List ℕ) → request (texts words.now) ≡ Some asked
-        → F.held files.old asked.module_path ≡ Bytes file → module_limit < length file
-        → NoneRose (F.faults files.old) (F.faults files.new)
-        (sink (O.written out.old) (O.written out.new) (O.faults out.old) (O.faults out.new))
-        (sink (E.written err.old) (E.written err.new) (E.faults err.old) (E.faults err.new))
-        → (result ≡ 7) ⊎ (result ≡ 6) }
-
-    // No file changes.
-    ensures kept { (other : List ℕ) → F.held files.new other ≡ F.held files.old other }
+    // Where no count of faults rose and the files are told, the answer is served that they give, or memory was wanting.
+    ensures complete { IsComplete (texts words.now)
+        (world F.Files files.old files.new O.Sink out.old out.new E.Sink err.old err.new) result }
 {
-    serve(alloc, words, files, out, err).status()
+    end(alloc, words, files, out, err)
 }

@@ -3,39 +3,57 @@
 //! `main` collects the words and makes the real files and streams. What the command does with them is `pythran`.
 #![tactic(auto)]
 
+ghost use Rattle.std.specs.Prelude.{◌≡◌, ◌≢◌, [], drop, IfOk, IfErr, IsErr, IsOkAnd};
+ghost use Rattle.std.specs.IoError.{error_kind};
+ghost use Rattle.std.specs.Vec.Iter.{into_iter_items};
+
 mod answer;
 mod command;
 mod deliver;
-mod ending;
 mod kernel;
 mod load;
 mod module_form;
-mod nest;
+mod program;
 mod request;
+mod saved_file;
 #[cfg(test)]
 mod tests;
+mod trouble;
 
 use command::pythran;
 use host_io::{OpenGate, OsFiles, OsSink};
+use std::alloc::{AllocError, Global};
 use std::env;
 use std::io::{self, ErrorKind};
 use std::process::ExitCode;
 
-/// The words after the program's name.
-fn collect_words(rt: &HostRuntime) -> io::Result<Vec<String>> {
-    let mut words = Vec::new(rt.alloc());
-    for word in env::args(rt)?.skip(1) {
-        words.push(word)?;
+/// The arguments after the program's name, all of them, in order.
+fn after_name(alloc: Global, args: env::Args) -> Result<Vec<String>, AllocError>
+    ensures { IfOk result (λ words. words.items ≡ drop 1 (into_iter_items args)) }
+{
+    args.skip(1).collect(alloc)
+}
+
+/// The words of a command: the arguments after the program's name, or none where they can't be had, as where one of
+/// them isn't UTF-8, since no words make no request. Want of memory is the one error.
+fn words_of(alloc: Global, args: io::Result<env::Args>) -> Result<Vec<String>, AllocError>
+    ensures all { IfOk args (λ args. IfOk result (λ words. words.items ≡ drop 1 (into_iter_items args))) }
+    ensures none { IfErr args (λ error. error_kind error ≢ ErrorKind.OutOfMemory →
+        IsOkAnd result (λ words. words.items ≡ [])) }
+    ensures memory { IfErr args (λ error. error_kind error ≡ ErrorKind.OutOfMemory → IsErr result) }
+{
+    match args {
+        Ok(args) => after_name(alloc, args),
+        Err(error) => match error.kind() {
+            ErrorKind::OutOfMemory => Err(AllocError),
+            _ => Ok(Vec::new(alloc)),
+        },
     }
-    Ok(words)
 }
 
 fn main(rt: HostRuntime) -> ExitCode {
-    // A word that isn't UTF-8 makes no request, as no words do.
-    let words = match collect_words(&rt) {
-        Ok(words) => words,
-        Err(error) if error.kind() == ErrorKind::OutOfMemory => return ExitCode::from(6),
-        Err(_) => Vec::new(rt.alloc()),
+    let Ok(words) = words_of(rt.alloc(), env::args(&rt)) else {
+        return ExitCode::from(6);
     };
     let mut files = OsFiles::new(&rt);
     let mut out = OsSink::new(rt.stdout());

@@ -1,13 +1,15 @@
-ghost use Rattle.std.specs.Prelude.{◌≡◌, ◌^◌, ◌≤◌, [], ◌++◌, length, map, IfOk, option_map};
+ghost use Rattle.std.specs.Prelude.{◌≡◌, ◌^◌, ◌≤◌, [], length, map, IfOk, option_map};
 ghost use Rattle.std.specs.List.{list_any};
 ghost use Rattle.std.specs.Str.{bytes_eq};
 ghost use Rattle.py_lex.specs.Lexed.{IsLexed};
 ghost use Rattle.pythran_main.specs.Form as form;
+ghost use Rattle.pythran_main.specs.Layers.{IsOne};
 ghost use Rattle.pythran_main.specs.Module as spec;
 ghost use Rattle.pythran_main.specs.Operands.{seen};
 ghost use Rattle.pythran_main.specs.Reading as reading;
 
 use crate::kernel::ShortKernel;
+use export_sig::{directives, exports};
 use krn_base::{BinOp, Loc, NoMemory, Refusal, Rule, Stop};
 use py_lex::{Tokens, tokens};
 use py_parse::{Expr, Function, Import, Module, Name, Note, Stmt, parse};
@@ -35,6 +37,7 @@ fn only<T>(items: &[T]) -> Option<&T>
     }
 }
 
+/// The name that an expression is, or none.
 fn name_in(x: &Expr) -> Option<&Name>
     ensures { option_map (λ name. name.now) result ≡ form.name_in x.now }
 {
@@ -44,13 +47,15 @@ fn name_in(x: &Expr) -> Option<&Name>
     }
 }
 
+/// The operation on two names, where both are there.
 fn named<'a>(
     left: Option<&'a Name>,
     right: Option<&'a Name>,
     op: BinOp,
     at: Loc,
 ) -> Option<Operation<'a>>
-    ensures { option_map seen result ≡ form.named (option_map (λ name. name.now) left.entry) (option_map (λ name. name.now) right.entry) op at }
+    ensures { option_map seen result ≡ form.named (option_map (λ name. name.now) left.entry)
+        (option_map (λ name. name.now) right.entry) op at }
 {
     match (left, right) {
         (Some(left), Some(right)) => Some(Operation {
@@ -70,6 +75,7 @@ fn with_link<'a>(first: &'a Expr, link: &'a (BinOp, Loc, Expr)) -> Option<Operat
     named(name_in(first), name_in(&link.2), link.0, link.1)
 }
 
+/// The operation on two names that an expression is, or none.
 fn operation_in(x: &Expr) -> Option<Operation<'_>>
     ensures { option_map seen result ≡ form.operation_in x.now }
 {
@@ -82,6 +88,7 @@ fn operation_in(x: &Expr) -> Option<Operation<'_>>
     }
 }
 
+/// The one value that a statement returns, or none.
 fn value_in(statement: &Stmt) -> Option<&Expr>
     ensures { option_map (λ x. x.now) result ≡ form.value_in statement.now }
 {
@@ -117,6 +124,7 @@ fn number_in(first: &Name, second: &Name, x: &Name) -> Option<u32>
     }
 }
 
+/// The kernel of an operation whose operands are the parameters of these numbers.
 fn numbered(
     function: &Function,
     first: &Name,
@@ -124,7 +132,8 @@ fn numbered(
     operation: &Operation<'_>,
     numbers: (Option<u32>, Option<u32>),
 ) -> Result<Option<ShortKernel>, AllocError>
-    ensures { IfOk result (λ kernel. kernel ≡ form.numbered function.now first.now second.now (seen operation.now) numbers.0 numbers.1) }
+    ensures { IfOk result
+        (λ kernel. kernel ≡ form.numbered function.now first.now second.now (seen operation.now) numbers.0 numbers.1) }
 {
     match numbers {
         (Some(left), Some(right)) => Ok(Some(ShortKernel {
@@ -141,6 +150,7 @@ fn numbered(
     }
 }
 
+/// The kernel of an operation on these two parameters, or none where an operand is another name.
 fn kernel_of(
     function: &Function,
     first: &Name,
@@ -154,12 +164,14 @@ fn kernel_of(
     numbered(function, first, second, operation, (left, right))
 }
 
+/// The kernel of a function with two parameters that returns an operation.
 fn kernel_with(
     function: &Function,
     params: &[Name],
     operation: Option<Operation<'_>>,
 ) -> Result<Option<ShortKernel>, AllocError>
-    ensures { IfOk result (λ kernel. kernel ≡ form.kernel_with function.now params.now (option_map seen operation.entry)) }
+    ensures { IfOk result
+        (λ kernel. kernel ≡ form.kernel_with function.now params.now (option_map seen operation.entry)) }
 {
     match (params, operation) {
         ([first, second], Some(operation)) => kernel_of(function, first, second, &operation),
@@ -167,6 +179,7 @@ fn kernel_with(
     }
 }
 
+/// The kernel that a function may be, or none.
 fn kernel_in(function: &Function) -> Result<Option<ShortKernel>, AllocError>
     ensures { IfOk result (λ kernel. kernel ≡ form.kernel_in function.now) }
 {
@@ -187,12 +200,14 @@ fn candidate(tree: &Module) -> Result<Option<ShortKernel>, AllocError>
     }
 }
 
+/// Whether a name is that of a built-in function.
 fn is_built_in(name: &[u8]) -> bool
     ensures { result ≡ list_any (bytes_eq name.now) spec.built_in }
 {
     contains(&BUILT_IN, name)
 }
 
+/// Whether a word is among others.
 fn contains(mut words: &[&[u8]], word: &[u8]) -> bool
     ensures { result ≡ list_any (bytes_eq word.now) (map (λ w. w.now) words.entry.now) }
 {
@@ -212,6 +227,7 @@ fn is_free_name(name: &[u8]) -> bool
     !is_built_in(name)
 }
 
+/// Whether a kernel and its parameters have three different names, none of them a built-in function's.
 fn are_names(kernel: &ShortKernel) -> bool
     ensures { result ≡ spec.are_names kernel.now }
 {
@@ -224,6 +240,7 @@ fn are_names(kernel: &ShortKernel) -> bool
     first != name && second != name && second != first
 }
 
+/// Whether an operation is an addition or a multiplication.
 fn is_short(op: BinOp) -> bool
     ensures { result ≡ spec.is_short op }
 {
@@ -241,12 +258,14 @@ fn export_text(alloc: Global, kernel: &ShortKernel) -> Result<Vec<u8>, AllocErro
     Ok(text)
 }
 
+/// Whether two texts are the same bytes.
 fn is_same(left: &[u8], right: &[u8]) -> bool
     ensures { result ≡ bytes_eq left.now right.now }
 {
     left == right
 }
 
+/// Whether the one note is the export of a kernel.
 fn is_exported_by(alloc: Global, notes: &[Note], kernel: &ShortKernel) -> Result<bool, AllocError>
     ensures { IfOk result (λ holds. holds ≡ form.is_exported_by (form.only notes.now) kernel.now) }
 {
@@ -259,6 +278,7 @@ fn is_exported_by(alloc: Global, notes: &[Note], kernel: &ShortKernel) -> Result
     }
 }
 
+/// Whether there are no imports.
 fn is_empty(imports: &[Import]) -> bool
     ensures { result ≡ form.is_empty imports.now }
 {
@@ -281,6 +301,7 @@ fn is_whole(alloc: Global, tree: &Module, kernel: &ShortKernel) -> Result<bool, 
     is_exported_by(alloc, tree.notes.as_slice(), kernel)
 }
 
+/// The candidate of a tree, where it is its kernel.
 fn whole(
     alloc: Global,
     tree: &Module,
@@ -315,26 +336,56 @@ fn no_module() -> Refusal
     }
 }
 
+/// The kernel of a tree, or the refusal of one that is no module of the form.
+fn shorten(alloc: Global, tree: &Module) -> Result<Result<ShortKernel, Refusal>, NoMemory>
+    ensures { IfOk result (IsOne (reading.Shortens tree.now)) }
+{
+    match form_of(alloc, tree)? {
+        Some(kernel) => Ok(Ok(kernel)),
+        None => Ok(Err(no_module())),
+    }
+}
+
+/// What a tree is read as whose export notes are well.
+fn read_directives(alloc: Global, tree: &Module) -> Result<Result<ShortKernel, Refusal>, NoMemory>
+    ensures { IfOk result (IsOne (reading.IsExportedReading tree.now)) }
+{
+    match directives(alloc, tree) {
+        Ok(_found) => shorten(alloc, tree),
+        Err(Stop::Refused(refused)) => Ok(Err(refused)),
+        Err(Stop::Memory) => Err(NoMemory),
+    }
+}
+
+/// What a tree is read as.
+fn read_tree(alloc: Global, tree: &Module) -> Result<Result<ShortKernel, Refusal>, NoMemory>
+    ensures { IfOk result (IsOne (reading.IsTreeReading tree.now)) }
+{
+    match exports(alloc, tree) {
+        Ok(_signatures) => read_directives(alloc, tree),
+        Err(Stop::Refused(export)) => Ok(Err(export)),
+        Err(Stop::Memory) => Err(NoMemory),
+    }
+}
+
+/// What the tokens of a text are read as.
 fn read_tokens(
     alloc: Global,
     text: &[u8],
     tokens: &Tokens,
 ) -> Result<Result<ShortKernel, Refusal>, NoMemory>
     requires { IsLexed text.now tokens.now }
-    ensures { IfOk result (reading.IsOneReading text.now) }
+    ensures { IfOk result (IsOne (reading.IsParsedReading text.now tokens.now)) }
 {
     match parse(alloc, text, tokens) {
-        Ok(tree) => match form_of(alloc, &tree)? {
-            Some(kernel) => Ok(Ok(kernel)),
-            None => Ok(Err(no_module())),
-        },
+        Ok(tree) => read_tree(alloc, &tree),
         Err(Stop::Refused(syntax)) => Ok(Err(syntax)),
         Err(Stop::Memory) => Err(NoMemory),
     }
 }
 
-/// The kernel whose module the text is, or the refusal of the first rule that refuses it: `Lex`, `Syntax`, or `Profile` where it is no
-/// module of the form.
+/// The kernel whose module the text is, or the refusal of the first rule that refuses it: `Lex`, `Syntax`, `Export`,
+/// `Directive`, or `Profile` where it is no module of the form.
 pub fn read_module(alloc: Global, text: &[u8]) -> Result<Result<ShortKernel, Refusal>, NoMemory>
     requires { length text.now ≤ 2 ^ 31 }
     ensures { IfOk result (reading.IsOneReading text.now) }

@@ -1,4 +1,4 @@
-ghost use Rattle.std.specs.Prelude.{◌≡◌, map, string_bytes, option_map};
+ghost use Rattle.std.specs.Prelude.{◌≡◌, string_bytes, option_map};
 ghost use Rattle.std.specs.List.{list_any};
 ghost use Rattle.pythran_main.specs.Request.{request, run_of, meaning, texts, is_option};
 
@@ -18,18 +18,21 @@ fn is_dashed(word: &str) -> bool
     1 < bytes.len() && bytes[0] == b'-'
 }
 
+/// Whether one of the words begins with `-` and isn't `-` alone.
 fn any_word_is_dashed(words: &[String]) -> bool
     ensures { result ≡ list_any (λ word. is_option (string_bytes word)) words.now }
 {
     words.iter().any(|word| is_dashed(word.as_str()))
 }
 
+/// The same, told of the words as bytes.
 fn any_is_dashed(words: &[String]) -> bool
     ensures { result ≡ list_any is_option (texts words.now) }
 {
     any_word_is_dashed(words)
 }
 
+/// The request of words that begin with `run`: a module, a kernel and items.
 fn read_run(words: &[String]) -> Option<Request<'_>>
     ensures { option_map meaning result ≡ run_of (texts words.entry.now) }
 {

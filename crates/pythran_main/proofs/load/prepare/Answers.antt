@@ -1,6 +1,20 @@
-use Rattle.std.proofs.Common.{ap, Err}
-use Rattle.host_io.specs.declared.files.LoadFault.{LoadFault}
+use Rattle.std.proofs.Common.{ℕ, List, subst}
+use Rattle.pythran_main.specs.Loads.{Whole}
+use Rattle.pythran_main.specs.Request.{meaning}
+use Rattle.pythran_main.specs.Steps.{Prepared, IsOneAnswer}
+use Rattle.pythran_main.specs.World.{files_of}
+use Rattle.pythran_main.proofs.Loads.{loaded_so, not_loaded}
 use Rattle.pythran_main.proofs.load.prepare.Goals as goal
 
-pub returns-in-Err-TooLong-clause-prepared : goal.returns-in-Err-TooLong-clause-prepared
-returns-in-Err-TooLong-clause-prepared g c = c.in-Err-TooLong.ensures.cut (ap (λ (fault : LoadFault). Err fault) c.in-Err-TooLong.field-0-is)
+pub returns-in-Ok-clause-prepared : goal.returns-in-Ok-clause-prepared
+returns-in-Ok-clause-prepared g c =
+    let P : List ℕ → Type 0 = λ file.
+    Prepared (IsOneAnswer (meaning c.args.request.now) (Whole file)) c.answer_request.result in
+    loaded_so (meaning c.args.request.now) (files_of g.F.Files c.args.files.now c.load_source.new.files)
+    c.in-Ok.file.items c.answer_request.result c.in-Ok.ensures.content
+    (subst P c.as_slice.ensures.value c.answer_request.ensures)
+
+pub returns-in-Err-clause-prepared : goal.returns-in-Err-clause-prepared
+returns-in-Err-clause-prepared g c =
+    not_loaded (meaning c.args.request.now) (files_of g.F.Files c.args.files.now c.load_source.new.files)
+    c.in-Err.trouble c.in-Err.ensures.failed

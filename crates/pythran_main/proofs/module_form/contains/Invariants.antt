@@ -5,7 +5,8 @@ use Rattle.pythran_main.proofs.module_form.contains.Given as goal
 
 abbrev pub invariant-loop-words : goal.invariant-loop-words
 invariant-loop-words l =
-    list_any (bytes_eq l.word) (map (λ w. w.now) l.words) ≡ list_any (bytes_eq l.word) (map (λ w. w.now) l.initial.words)
+    list_any (bytes_eq l.word) (map (λ w. w.now) l.words) ≡ list_any (bytes_eq l.word)
+    (map (λ w. w.now) l.initial.words)
 
 abbrev pub decreases-loop-words : goal.decreases-loop-words
 decreases-loop-words l = length l.words

@@ -1,24 +1,22 @@
-use Rattle.std.proofs.Common.{◌∙◌, sym, subst, Err}
+use Rattle.std.proofs.Common.{sym, subst, Err}
 use Rattle.krn_base.specs.declared.refusal.Refusal.{Refusal}
-use Rattle.pythran_main.specs.Reading.{IsOneReading}
-use Rattle.pythran_main.proofs.Modules.{not_parsed_at, short, not_short}
+use Rattle.pythran_main.specs.Layers.{IsOne}
+use Rattle.pythran_main.specs.Reading.{Parses, IsTreeReading, IsParsedReading}
+use Rattle.pythran_main.proofs.Layers.{then_none, if_one}
+use Rattle.pythran_main.proofs.Modules.{parsed_as, not_parsed_at}
 use Rattle.pythran_main.proofs.module_form.read_tokens.Goals as goal
-
-pub returns-in-Some : goal.returns-in-Some
-returns-in-Some c =
-    short c.args.text.now c.args.tokens.now c.requires c.in-Ok.tree c.in-Ok.ensures.tree c.in-Ok.ensures.only c.in-Ok.ensures.place
-    c.in-Some.kernel (sym c.in_ok-kernel-in-Ok.ensures ∙ c.in-Some.is)
 
 pub returns-in-Ok : goal.returns-in-Ok
 returns-in-Ok c =
-    let P : Refusal → Type 0 = λ r. IsOneReading c.args.text.now (Err r) in
-    subst P (sym c.no_module.ensures)
-    (not_short c.args.text.now c.args.tokens.now c.requires c.in-Ok.tree c.in-Ok.ensures.tree c.in-Ok.ensures.only c.in-Ok.ensures.place
-    (sym c.in_ok-kernel-in-Ok.ensures ∙ c.in-None.is))
+    let e = c.in-Ok.ensures in
+    if_one (Parses c.args.text.now c.args.tokens.now) IsTreeReading c.in-Ok.tree c.read_tree.result
+    (parsed_as c.args.text.now c.args.tokens.now c.in-Ok.tree e.tree e.only e.place) c.read_tree.ensures
 
 pub returns-in-Err-Refused : goal.returns-in-Err-Refused
 returns-in-Err-Refused c =
-    let P : Refusal → Type 0 = λ r. IsOneReading c.args.text.now (Err r) in
+    let e = c.in-Err-Refused.ensures in
+    let P : Refusal → Type 0 = λ r. IsOne (IsParsedReading c.args.text.now c.args.tokens.now) (Err r) in
     subst P (sym c.in-Err-Refused.syntax-is)
-    (not_parsed_at c.args.text.now c.args.tokens.now c.requires c.in-Err-Refused.field-0 c.in-Err-Refused.syntax c.in-Err-Refused.field-0-is
-    c.in-Err-Refused.ensures.refused c.in-Err-Refused.ensures.only c.in-Err-Refused.ensures.place)
+    (then_none (Parses c.args.text.now c.args.tokens.now) IsTreeReading c.in-Err-Refused.syntax
+    (not_parsed_at c.args.text.now c.args.tokens.now c.in-Err-Refused.field-0 c.in-Err-Refused.syntax
+    c.in-Err-Refused.field-0-is e.refused e.only e.place))

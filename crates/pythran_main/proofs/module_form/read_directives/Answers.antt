@@ -1,0 +1,24 @@
+use Rattle.std.proofs.Common.{sym, subst, Err}
+use Rattle.export_sig.specs.Directives.{AreDirectives, IsDirectiveRefusal}
+use Rattle.krn_base.specs.declared.refusal.Refusal.{Refusal}
+use Rattle.pythran_main.specs.Layers.{IsOne}
+use Rattle.pythran_main.specs.Reading.{Directs, Shortens, IsExportedReading}
+use Rattle.pythran_main.proofs.Layers.{then_none, if_one}
+use Rattle.pythran_main.proofs.Modules.{listed_as, not_listed_at}
+use Rattle.pythran_main.proofs.module_form.read_directives.Goals as goal
+
+pub returns-in-Ok : goal.returns-in-Ok
+returns-in-Ok c =
+    let e = c.in-Ok.ensures in
+    if_one (Directs c.args.tree.now) (λ directives. Shortens c.args.tree.now) c.in-Ok._found c.shorten.result
+    (listed_as (AreDirectives c.args.tree.now) (IsDirectiveRefusal c.args.tree.now) c.in-Ok._found e.directives e.only
+    e.place) c.shorten.ensures
+
+pub returns-in-Err-Refused : goal.returns-in-Err-Refused
+returns-in-Err-Refused c =
+    let e = c.in-Err-Refused.ensures in
+    let P : Refusal → Type 0 = λ r. IsOne (IsExportedReading c.args.tree.now) (Err r) in
+    subst P (sym c.in-Err-Refused.refused-is)
+    (then_none (Directs c.args.tree.now) (λ directives. Shortens c.args.tree.now) c.in-Err-Refused.refused
+    (not_listed_at (AreDirectives c.args.tree.now) (IsDirectiveRefusal c.args.tree.now) c.in-Err-Refused.field-0
+    c.in-Err-Refused.refused c.in-Err-Refused.field-0-is e.refused e.only e.place))

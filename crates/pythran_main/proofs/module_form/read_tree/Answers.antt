@@ -1,0 +1,25 @@
+use Rattle.std.proofs.Common.{sym, subst, Err}
+use Rattle.export_sig.specs.Exports.{AreExports, IsExportRefusal}
+use Rattle.krn_base.specs.declared.refusal.Refusal.{Refusal}
+use Rattle.pythran_main.specs.Layers.{IsOne}
+use Rattle.pythran_main.specs.Reading.{Exports, IsExportedReading, IsTreeReading}
+use Rattle.pythran_main.proofs.Layers.{then_none, if_one}
+use Rattle.pythran_main.proofs.Modules.{listed_as, not_listed_at}
+use Rattle.pythran_main.proofs.module_form.read_tree.Goals as goal
+
+pub returns-in-Ok : goal.returns-in-Ok
+returns-in-Ok c =
+    let e = c.in-Ok.ensures in
+    if_one (Exports c.args.tree.now) (λ signatures. IsExportedReading c.args.tree.now) c.in-Ok._signatures
+    c.read_directives.result
+    (listed_as (AreExports c.args.tree.now) (IsExportRefusal c.args.tree.now) c.in-Ok._signatures e.signatures e.only
+    e.place) c.read_directives.ensures
+
+pub returns-in-Err-Refused : goal.returns-in-Err-Refused
+returns-in-Err-Refused c =
+    let e = c.in-Err-Refused.ensures in
+    let P : Refusal → Type 0 = λ r. IsOne (IsTreeReading c.args.tree.now) (Err r) in
+    subst P (sym c.in-Err-Refused.export-is)
+    (then_none (Exports c.args.tree.now) (λ signatures. IsExportedReading c.args.tree.now) c.in-Err-Refused.export
+    (not_listed_at (AreExports c.args.tree.now) (IsExportRefusal c.args.tree.now) c.in-Err-Refused.field-0
+    c.in-Err-Refused.export c.in-Err-Refused.field-0-is e.refused e.only e.place))
