@@ -1,6 +1,7 @@
 -- The clauses of the two public calls.
 use Rattle.std.proofs.Common.{◌≡◌, List, [], filter, Result, IfOk, IfErr}
 use Rattle.std.proofs.Common.{subst}
+use Rattle.krn_base.specs.declared.place.Loc.{Loc}
 use Rattle.krn_base.specs.declared.refusal.Refusal.{Refusal}
 use Rattle.krn_base.specs.declared.refusal.Rule.TheVariants as rule
 use Rattle.krn_base.specs.declared.refusal.Stop.{Stop}
@@ -12,33 +13,38 @@ use Rattle.export_sig.specs.declared.directive.Directive.{Directive}
 use Rattle.export_sig.specs.declared.signature.Signature.{Signature}
 use Rattle.export_sig.specs.Directives.{IsDirective, is_directive, directive_notes, AreDirectives, IsDirectiveRefusal}
 use Rattle.export_sig.specs.Exports.{IsExport, is_export, export_notes, AreExports, IsExportRefusal}
-use Rattle.export_sig.specs.Listing.{Answers, Places, scan, export_given, directive_given}
+use Rattle.export_sig.specs.Exports.{parameter_count}
+use Rattle.export_sig.specs.Listing.{Answers, Count, Places, scan, export_given, directive_given}
 use Rattle.export_sig.specs.NoteLists.{IsOnly, IsOnlyRefusal}
 use Rattle.export_sig.proofs.DirectiveLaws.{ArePlaces, directive_right, directive_whole, one_directive}
-use Rattle.export_sig.proofs.ExportLaws.{Signs, signs_grow, export_right, export_whole}
+use Rattle.export_sig.proofs.ExportLaws.{Signs, signs_grow, export_right, export_whole, Counts, export_same}
 use Rattle.export_sig.proofs.ExportTexts.{one_signature}
 use Rattle.export_sig.proofs.Scans.{Scanned, scan_answers, none_earlier, ok_clause, refused_clause, only_clause}
-use Rattle.export_sig.proofs.Scans.{place_clause}
+use Rattle.export_sig.proofs.Scans.{place_clause, scan_same}
 
 -- what `exports` and `directives` answer
 pub record ExportsAnswer (m : Module) (result : Result (List Signature) Stop) : Type 0 where
-  pub is : Answers rule.Export (scan (export_given m.functions) [] (export_notes m)) result
+  pub is : Answers rule.Export (scan (export_given (parameter_count m.functions)) [] (export_notes m)) result
 
-pub exports_answer : (m : Module) (functions : List Function) (notes : List Note)
+pub exports_answer : (m : Module) (count : Count) (functions : List Function) (notes : List Note)
     (result : Result (List Signature) Stop) → functions ≡ m.functions → notes ≡ m.notes
-    → Answers rule.Export (scan (export_given functions) [] (filter is_export notes)) result → ExportsAnswer m result
-exports_answer m functions notes result e f h =
+    → Counts count functions → Answers rule.Export (scan (export_given count) [] (filter is_export notes)) result
+    → ExportsAnswer m result
+exports_answer m count functions notes result e f c h =
+    let g = subst (λ (out : Result (List Signature) Loc). Answers rule.Export out result)
+    (scan_same (export_given count) (export_given (parameter_count functions)) (export_same count functions c) []
+    (filter is_export notes)) h in
     record {
       is = subst (λ (ns : List Note). Answers rule.Export
-          (scan (export_given m.functions) [] (filter is_export ns)) result) f
+          (scan (export_given (parameter_count m.functions)) [] (filter is_export ns)) result) f
           (subst (λ (fs : List Function). Answers rule.Export
-          (scan (export_given fs) [] (filter is_export notes)) result) e h);
+          (scan (export_given (parameter_count fs)) [] (filter is_export notes)) result) e g);
     }
 
 exports_scanned : (m : Module) → Scanned (IsExport m) [] [] (export_notes m)
-    (scan (export_given m.functions) [] (export_notes m))
+    (scan (export_given (parameter_count m.functions)) [] (export_notes m))
 exports_scanned m =
-    scan_answers (IsExport m) (export_given m.functions) Signs
+    scan_answers (IsExport m) (export_given (parameter_count m.functions)) Signs
     (λ before found n after s so h. signs_grow before found n s so h.text) (export_right m) (export_whole m)
     [] [] (export_notes m) tt (none_earlier (IsExport m) (export_notes m))
 

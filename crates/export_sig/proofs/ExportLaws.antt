@@ -1,5 +1,6 @@
 -- What one pass gives an export note is its signature by the rules.
 use Rattle.std.proofs.Common.{◌≡◌, ℕ, suc, ◌≤◌, ◌<◌, Bool, true, false, cond, not, ◌||◌, eqb, leb, ltb, List}
+use Rattle.std.proofs.Common.{◌&&◌}
 use Rattle.std.proofs.Common.{[], ◌∷◌, ◌++◌, length, Option, Some, None, refl, sym, ap, subst, ◌∙◌}
 use Rattle.std.specs.List.{list_any, AllByRecursion}
 use Rattle.std.specs.Str.{bytes_eq}
@@ -14,7 +15,9 @@ use Rattle.py_parse.specs.declared.tree.Note.{Note}
 use Rattle.export_sig.specs.declared.signature.Signature.{Signature}
 use Rattle.export_sig.specs.Exports.{parameter_count, IsRepeated, most_params, most_exports, IsExport}
 use Rattle.export_sig.specs.Listing.{is_count, is_kind, is_type, are_types, is_repeated, is_admitted, admitted}
-use Rattle.export_sig.specs.Listing.{export_from, export_given}
+use Rattle.py_lex.specs.Bytes.{Bytes}
+use Rattle.export_sig.specs.Reading.{◌>>=◌}
+use Rattle.export_sig.specs.Listing.{Count, export_from, export_given}
 use Rattle.export_sig.specs.Reading.{signature_of}
 use Rattle.export_sig.specs.Signatures.{IsSignature}
 use Rattle.export_sig.proofs.Tools.{bind_some, seq, some_is, chosen_some, both_true, both, text_is, same_text}
@@ -155,7 +158,7 @@ record Admitted (functions : List Function) (found : List Signature) (s : Signat
   pub new : list_any (is_repeated s) found ≡ false
 
 admitted_is : (functions : List Function) (found : List Signature) (s : Signature)
-    → is_admitted functions found s ≡ true → Admitted functions found s
+    → is_admitted (parameter_count functions) found s ≡ true → Admitted functions found s
 unfolding is_admitted
 admitted_is functions found s e =
     let a = both_true (is_count (parameter_count functions s.name.text) (length s.params)) _ e in
@@ -171,7 +174,7 @@ admitted_is functions found s e =
     }
 
 admitted_by : (functions : List Function) (found : List Signature) (s : Signature) → Admitted functions found s
-    → is_admitted functions found s ≡ true
+    → is_admitted (parameter_count functions) found s ≡ true
 unfolding is_admitted
 admitted_by functions found s h =
     both _ _ (count_by (parameter_count functions s.name.text) (length s.params) h.own)
@@ -179,11 +182,12 @@ admitted_by functions found s h =
     (both _ _ (lt-ltb (length found) most_exports h.room) (not_by (list_any (is_repeated s) found) h.new)))
 
 pub export_right : (m : Module) (before : List Note) (found : List Signature) (n : Note) (after : List Note)
-    (s : Signature) → Signs before found → export_given m.functions found n after ≡ Some s → IsExport m before n after s
+    (s : Signature) → Signs before found → export_given (parameter_count m.functions) found n after ≡ Some s
+    → IsExport m before n after s
 unfolding export_from
 export_right m before found n after s so e =
-    let x = bind_some (signature_of n) (admitted m.functions found) s e in
-    let t = chosen_some (is_admitted m.functions found x.0) (Some x.0) s x.2 in
+    let x = bind_some (signature_of n) (admitted (parameter_count m.functions) found) s e in
+    let t = chosen_some (is_admitted (parameter_count m.functions) found x.0) (Some x.0) s x.2 in
     let same : x.0 ≡ s = some_is x.0 s t.1 in
     let a = admitted_is m.functions found x.0 t.0 in
     subst (IsExport m before n after) same (record {
@@ -195,14 +199,35 @@ export_right m before found n after s so e =
     })
 
 pub export_whole : (m : Module) (before : List Note) (found : List Signature) (n : Note) (after : List Note)
-    (s : Signature) → Signs before found → IsExport m before n after s → export_given m.functions found n after ≡ Some s
+    (s : Signature) → Signs before found → IsExport m before n after s
+    → export_given (parameter_count m.functions) found n after ≡ Some s
 unfolding export_from
 export_whole m before found n after s so h =
-    let a : is_admitted m.functions found s ≡ true = admitted_by m.functions found s (record {
+    let a : is_admitted (parameter_count m.functions) found s ≡ true = admitted_by m.functions found s (record {
       own = h.own;
       few = h.few;
       room = subst (λ (k : ℕ). k < most_exports) (as_many before found so) h.room;
       new = none_repeated s before found so h.new;
     }) in
-    seq (signature_of n) (admitted m.functions found) s (Some s) (signature_read n s h.text)
+    seq (signature_of n) (admitted (parameter_count m.functions) found) s (Some s) (signature_read n s h.text)
     (ap (λ (t : Bool). cond t (Some s) None) a)
+
+-- a count that is right for these functions
+abbrev pub Counts : Count → List Function → Type 0
+Counts count functions = (name : Bytes) → count name ≡ parameter_count functions name
+
+bind_same : (o : Option Signature) (f g : Signature → Option Signature) → ((s : Signature) → f s ≡ g s)
+    → (o >>= f) ≡ (o >>= g)
+bind_same None f g e = refl
+bind_same (Some s) f g e = e s
+
+pub export_same : (count : Count) (functions : List Function) → Counts count functions → (found : List Signature)
+    (n : Note) (after : List Note)
+    → export_given count found n after ≡ export_given (parameter_count functions) found n after
+unfolding export_from is_admitted
+export_same count functions right found n after =
+    bind_same (signature_of n) (admitted count found) (admitted (parameter_count functions) found)
+    (λ s. ap (λ (k : Option ℕ). cond (is_count k (length s.params)
+    && (leb (length s.params) most_params
+    && (ltb (length found) most_exports
+    && not (list_any (is_repeated s) found)))) (Some s) None) (right s.name.text))

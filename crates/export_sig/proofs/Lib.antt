@@ -10,3 +10,4 @@ pub mod Scans
 pub mod ExportLaws
 pub mod DirectiveLaws
 pub mod Clauses
+pub mod Numbers

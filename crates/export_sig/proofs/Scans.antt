@@ -220,3 +220,18 @@ module _ {X : Type 0} (R : Reading X) where
       let t = refused_clause notes rule o (Err (stop.Refused q)) s e in
       let same : t.1 ≡ h.1 = one_first notes t.1 h.1 t.3 h.3 in
       same_refusal q r (t.0 ∙ sym h.0) (t.2 ∙ ap (λ (n : Note). n.loc) same ∙ sym h.2)
+
+taken_same : {X : Type 0} (at : Loc) (f g : X → Result (List X) Loc) (o : Option X) → ((x : X) → f x ≡ g x)
+    → taken at f o ≡ taken at g o
+taken_same at f g None e = refl
+taken_same at f g (Some x) e = e x
+
+-- passes by two readings that give the same give the same
+pub scan_same : {X : Type 0} (f g : Given X)
+    → ((found : List X) (n : Note) (after : List Note) → f found n after ≡ g found n after)
+    → (found : List X) (notes : List Note) → scan f found notes ≡ scan g found notes
+scan_same f g e found [] = refl
+scan_same f g e found (n ∷ ns) =
+    ap (taken n.loc (λ x. scan f (found ++ x ∷ []) ns)) (e found n ns)
+    ∙ taken_same n.loc (λ x. scan f (found ++ x ∷ []) ns) (λ x. scan g (found ++ x ∷ []) ns) (g found n ns)
+    (λ x. scan_same f g e (found ++ x ∷ []) ns)

@@ -8,3 +8,4 @@ pub mod Exports
 pub mod Directives
 pub mod Reading
 pub mod Listing
+pub mod Counts

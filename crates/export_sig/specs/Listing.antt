@@ -15,12 +15,11 @@ use Rattle.krn_base.specs.declared.refusal.Rule.{Rule}
 use Rattle.krn_base.specs.declared.refusal.Stop.{Stop}
 use Rattle.krn_base.specs.declared.refusal.Stop.TheVariants as stop
 use Rattle.py_lex.specs.Bytes.{Bytes}
-use Rattle.py_parse.specs.declared.tree.Function.{Function}
 use Rattle.py_parse.specs.declared.tree.Name.{Name}
 use Rattle.py_parse.specs.declared.tree.Note.{Note}
 use Rattle.export_sig.specs.declared.directive.Directive.{Directive}
 use Rattle.export_sig.specs.declared.signature.Signature.{Signature}
-use Rattle.export_sig.specs.Exports.{parameter_count, most_params, most_exports}
+use Rattle.export_sig.specs.Exports.{most_params, most_exports}
 use Rattle.export_sig.specs.Reading.{◌>>=◌, signature_of, reductions_of}
 
 -- ---- one pass
@@ -67,21 +66,25 @@ are_types _ _ = false
 abbrev pub is_repeated : Signature → Signature → Bool
 is_repeated s t = bytes_eq s.name.text t.name.text && are_types s.params t.params
 
-unfoldable pub is_admitted : List Function → List Signature → Signature → Bool
-is_admitted functions found s =
-    is_count (parameter_count functions s.name.text) (length s.params)
+-- how many parameters the function of a name has
+abbrev pub Count : Type 0
+Count = Bytes → Option ℕ
+
+unfoldable pub is_admitted : Count → List Signature → Signature → Bool
+is_admitted count found s =
+    is_count (count s.name.text) (length s.params)
     && (nat_le (length s.params) most_params
     && (nat_lt (length found) most_exports
     && not (list_any (is_repeated s) found)))
 
-abbrev pub admitted : List Function → List Signature → Signature → Option Signature
-admitted functions found s = if is_admitted functions found s then Some s else None
+abbrev pub admitted : Count → List Signature → Signature → Option Signature
+admitted count found s = if is_admitted count found s then Some s else None
 
-unfoldable pub export_from : List Function → List Signature → Note → Option Signature
-export_from functions found note = signature_of note >>= admitted functions found
+unfoldable pub export_from : Count → List Signature → Note → Option Signature
+export_from count found note = signature_of note >>= admitted count found
 
-abbrev pub export_given : List Function → Given Signature
-export_given functions found note after = export_from functions found note
+abbrev pub export_given : Count → Given Signature
+export_given count found note after = export_from count found note
 
 -- ---- directives
 

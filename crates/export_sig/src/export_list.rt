@@ -6,7 +6,8 @@ ghost use Rattle.krn_base.specs.declared.refusal.Refusal.{Refusal};
 ghost use Rattle.krn_base.specs.declared.refusal.Rule.TheVariants as rule;
 ghost use Rattle.krn_base.specs.declared.refusal.Stop.TheVariants as stop;
 ghost use Rattle.export_sig.specs.declared.signature.Signature.{Signature};
-ghost use Rattle.export_sig.specs.Exports.{AreExports, IsExportRefusal, is_export, export_notes, parameter_count};
+ghost use Rattle.export_sig.specs.Counts.{count_in};
+ghost use Rattle.export_sig.specs.Exports.{AreExports, IsExportRefusal, is_export};
 ghost use Rattle.export_sig.specs.Listing as spec;
 ghost use Rattle.export_sig.specs.Listing.{Answers, scan, export_from, export_given};
 ghost use Rattle.export_sig.specs.NoteLists.{IsOnly, IsOnlyRefusal};
@@ -14,10 +15,11 @@ ghost use Rattle.export_sig.specs.Reading.{Reads};
 
 use crate::export_note::signature_of;
 use crate::failure::Failure;
+use crate::functions::{ParameterCounts, count_parameters, parameter_count};
 use crate::signature::Signature;
 use crate::words::has_first_word;
 use krn_base::{ParamType, Refusal, Rule, Seq, Stop};
-use py_parse::{Function, Module, Note};
+use py_parse::{Module, Note};
 use std::alloc::{AllocError, Global};
 
 /// An exported function has at most so many parameters.
@@ -25,20 +27,6 @@ const MOST_PARAMS: usize = 16;
 
 /// A module has at most so many exports.
 const MOST_EXPORTS: usize = 64;
-
-// How many parameters the first function of this name has.
-fn parameter_count(functions: &[Function], name: &[u8]) -> Option<usize>
-    ensures { result ≡ parameter_count functions.now name.now }
-{
-    let mut rest = functions;
-    while let [function, more @ ..] = rest {
-        if name == function.name.text.as_slice() {
-            return Some(function.params.as_slice().len());
-        }
-        rest = more;
-    }
-    None
-}
 
 fn is_type(a: ParamType, b: ParamType) -> bool
     ensures { result ≡ spec.is_type a b }
@@ -89,10 +77,10 @@ fn any_repeated(s: &Signature, found: &[Signature]) -> bool
     false
 }
 
-fn has_params(functions: &[Function], s: &Signature) -> bool
-    ensures { result ≡ spec.is_count (parameter_count functions.now s.now.name.text) (length s.now.params) }
+fn has_params(counts: &ParameterCounts<'_>, s: &Signature) -> bool
+    ensures { result ≡ spec.is_count (count_in counts.now s.now.name.text) (length s.now.params) }
 {
-    match parameter_count(functions, s.name.text.as_slice()) {
+    match parameter_count(counts, s.name.text.as_slice()) {
         Some(count) => count == s.params.as_slice().len(),
         None => false,
     }
@@ -100,10 +88,10 @@ fn has_params(functions: &[Function], s: &Signature) -> bool
 
 // Whether a signature may stand behind those that were found.
 #[tactic(auto, unfolding(crate::specs::Listing::is_admitted))]
-fn is_admitted(functions: &[Function], found: &[Signature], s: &Signature) -> bool
-    ensures { result ≡ spec.is_admitted functions.now found.now s.now }
+fn is_admitted(counts: &ParameterCounts<'_>, found: &[Signature], s: &Signature) -> bool
+    ensures { result ≡ spec.is_admitted (count_in counts.now) found.now s.now }
 {
-    if !has_params(functions, s) {
+    if !has_params(counts, s) {
         return false;
     }
     if s.params.as_slice().len() > MOST_PARAMS {
@@ -118,14 +106,14 @@ fn is_admitted(functions: &[Function], found: &[Signature], s: &Signature) -> bo
 #[tactic(auto, unfolding(crate::specs::Listing::export_from))]
 fn signature(
     alloc: Global,
-    functions: &[Function],
+    counts: &ParameterCounts<'_>,
     found: &[Signature],
     note: &Note,
 ) -> Result<Signature, Failure>
-    ensures { Reads (λ s. s) result (export_from functions.now found.now note.now) }
+    ensures { Reads (λ s. s) result (export_from (count_in counts.now) found.now note.now) }
 {
     let signature = signature_of(alloc, note)?;
-    if is_admitted(functions, found, &signature) {
+    if is_admitted(counts, found, &signature) {
         Ok(signature)
     } else {
         Err(Failure::Malformed)
@@ -139,8 +127,12 @@ fn is_export(note: &Note) -> bool
 }
 
 // The signatures by one pass over the notes.
-fn signatures(alloc: Global, functions: &[Function], notes: &[Note]) -> Result<Seq<Signature>, Stop>
-    ensures { Answers rule.Export (scan (export_given functions.now) [] (filter is_export notes.now)) result }
+fn signatures(
+    alloc: Global,
+    counts: &ParameterCounts<'_>,
+    notes: &[Note],
+) -> Result<Seq<Signature>, Stop>
+    ensures { Answers rule.Export (scan (export_given (count_in counts.now)) [] (filter is_export notes.now)) result }
 {
     let mut found = Vec::new(alloc);
     let mut rest = notes;
@@ -149,7 +141,7 @@ fn signatures(alloc: Global, functions: &[Function], notes: &[Note]) -> Result<S
         if !is_export(note) {
             continue;
         }
-        match signature(alloc, functions, found.as_slice(), note) {
+        match signature(alloc, counts, found.as_slice(), note) {
             Ok(signature) => found.push(signature).map_err(AllocError::from)?,
             Err(Failure::Memory) => return Err(Stop::Memory),
             Err(Failure::Malformed) => {
@@ -168,13 +160,15 @@ fn signatures(alloc: Global, functions: &[Function], notes: &[Note]) -> Result<S
 /// A note is refused by `Rule::Export` at its `#` where it is malformed, names no function of the module, has
 /// another number of types than that function has parameters (the first function of the name counts), has more than
 /// 16, repeats name and types of a signature before it, or is the 65th; the first such note in the text gives the
-/// refusal. Nothing is asked of the module. Each note is read once and looked up in the functions and in the
-/// signatures so far; no note behind the 65th is read.
+/// refusal. Nothing is asked of the module. The functions are gone through once. Each note is read once, its name is
+/// looked up in an index, and it is compared with the signatures so far, of which there are 64 at most; no note behind
+/// the 65th is read.
 pub fn exports(alloc: Global, module: &Module) -> Result<Seq<Signature>, Stop>
     ensures signatures { IfOk result (λ signatures. AreExports «module».now signatures) }
     ensures refused { IfErr result (IsExportRefusal «module».now) }
     ensures only { (signatures : List Signature) → AreExports «module».now signatures → IsOnly signatures result }
     ensures place { (r : Refusal) → IsExportRefusal «module».now (stop.Refused r) → IsOnlyRefusal r result }
 {
-    signatures(alloc, module.functions.as_slice(), module.notes.as_slice())
+    let counts = count_parameters(alloc, module.functions.as_slice())?;
+    signatures(alloc, &counts, module.notes.as_slice())
 }

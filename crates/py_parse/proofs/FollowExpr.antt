@@ -74,19 +74,19 @@ links_by n depth R operand ho again found ts h None is =
     rule_by (ap (λ (z : Option BinOp). with_operator z
     (T (kind ts) ∷ N (s.Chain n depth) depth ∷ N (s.Links n) depth ∷ [])) is) (no_more found)
 
-links_from : (n depth : ℕ) (R : Grammar Expr) (operand : Parser Expr)
+links_n : (n depth : ℕ) (R : Grammar Expr) (operand : Parser Expr)
     → ((ts : Lexemes) → Follows R (N (s.Chain n depth) depth ∷ []) ts (operand ts))
     → (turns : ℕ) (found : List Link) (ts : Lexemes) → length ts ≤ turns
     → Follows (Adds (g.many (g.link (operator_at (suc n)) R)) found) (N (s.Links n) depth ∷ []) ts
-    (d.links_from (suc n) operand turns found ts)
-unfolding d.links_from
-links_from n depth R operand ho zero found [] le =
+    (d.links_n (suc n) operand turns found ts)
+unfolding d.links_n
+links_n n depth R operand ho zero found [] le =
     rule_by (ap (λ (z : Option BinOp). with_operator z
     (T t.End ∷ N (s.Chain n depth) depth ∷ N (s.Links n) depth ∷ [])) (end_none (suc n))) (no_more found)
-links_from n depth R operand ho zero found (x ∷ xs) le = absurd (omega arith)
-links_from n depth R operand ho (suc turns) found ts le =
-    links_by n depth R operand ho (d.links_from (suc n) operand turns) found ts
-    (λ all us lt. links_from n depth R operand ho turns all us (omega arith)) (operator_at (suc n) (kind ts)) refl
+links_n n depth R operand ho zero found (x ∷ xs) le = absurd (omega arith)
+links_n n depth R operand ho (suc turns) found ts le =
+    links_by n depth R operand ho (d.links_n (suc n) operand turns) found ts
+    (λ all us lt. links_n n depth R operand ho turns all us (omega arith)) (operator_at (suc n) (kind ts)) refl
 
 links_follow : (n depth : ℕ) (R : Grammar Expr) (operand : Parser Expr)
     → ((ts : Lexemes) → Follows R (N (s.Chain n depth) depth ∷ []) ts (operand ts))
@@ -95,7 +95,7 @@ links_follow : (n depth : ℕ) (R : Grammar Expr) (operand : Parser Expr)
 unfolding d.links
 links_follow n depth R operand ho ts =
     weaken (λ all us r. from_none (g.many (g.link (operator_at (suc n)) R)) all us r)
-    (links_from n depth R operand ho (length ts) [] ts (omega arith))
+    (links_n n depth R operand ho (length ts) [] ts (omega arith))
 
 pub chain_follows : (depth : ℕ) (inner : Inner) (rx : Grammar Expr) → Inside depth inner rx → (n r : ℕ) (ts : Lexemes)
     → Follows (g.chain depth n r rx) (N (s.Chain n r) depth ∷ []) ts (d.chain inner depth n r ts)
@@ -238,17 +238,17 @@ joins_by word symbol rule depth rows R operand ho again found ts h true is =
 joins_by word symbol rule depth rows R operand ho again found ts h false is =
     rule_by (rows.none (kind ts) is) (no_more found)
 
-joins_from : (word : Terminal) (symbol : Symbol) (rule : Rule) (depth : ℕ) → Rows word symbol rule depth
+joins_n : (word : Terminal) (symbol : Symbol) (rule : Rule) (depth : ℕ) → Rows word symbol rule depth
     → (R : Grammar Expr) (operand : Parser Expr) → ((ts : Lexemes) → Follows R (symbol ∷ []) ts (operand ts))
     → (turns : ℕ) (found : List Join) (ts : Lexemes) → length ts ≤ turns
-    → Follows (Adds (g.many (g.join word R)) found) (N rule depth ∷ []) ts (d.joins_from word operand turns found ts)
-unfolding d.joins_from
-joins_from word symbol rule depth rows R operand ho zero found [] le =
+    → Follows (Adds (g.many (g.join word R)) found) (N rule depth ∷ []) ts (d.joins_n word operand turns found ts)
+unfolding d.joins_n
+joins_n word symbol rule depth rows R operand ho zero found [] le =
     rule_by (rows.none t.End rows.last) (no_more found)
-joins_from word symbol rule depth rows R operand ho zero found (x ∷ xs) le = absurd (omega arith)
-joins_from word symbol rule depth rows R operand ho (suc turns) found ts le =
-    joins_by word symbol rule depth rows R operand ho (d.joins_from word operand turns) found ts
-    (λ all us lt. joins_from word symbol rule depth rows R operand ho turns all us (omega arith))
+joins_n word symbol rule depth rows R operand ho zero found (x ∷ xs) le = absurd (omega arith)
+joins_n word symbol rule depth rows R operand ho (suc turns) found ts le =
+    joins_by word symbol rule depth rows R operand ho (d.joins_n word operand turns) found ts
+    (λ all us lt. joins_n word symbol rule depth rows R operand ho turns all us (omega arith))
     (same (kind ts) word) refl
 
 joins_follow : (word : Terminal) (symbol : Symbol) (rule : Rule) (depth : ℕ) → Rows word symbol rule depth
@@ -258,7 +258,7 @@ joins_follow : (word : Terminal) (symbol : Symbol) (rule : Rule) (depth : ℕ) �
 unfolding d.joins
 joins_follow word symbol rule depth rows R operand ho ts =
     weaken (λ all us r. from_none (g.many (g.join word R)) all us r)
-    (joins_from word symbol rule depth rows R operand ho (length ts) [] ts (omega arith))
+    (joins_n word symbol rule depth rows R operand ho (length ts) [] ts (omega arith))
 
 ands_none : (depth : ℕ) (k : Terminal) → same k t.And ≡ false → row s.Ands depth k ≡ Some []
 unfolding same

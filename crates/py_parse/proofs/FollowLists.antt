@@ -155,16 +155,16 @@ unfolding same
 until_by item d parser again found ts h k t.Dedent is = rule_by (ap (row Stmts d) is) (no_more found)
 until_by item d parser again found ts h k _ is = rule_by (ap (row Stmts d) is) (one_more found (go_on h k))
 
-until_from : {A : Type 0} (item : Grammar A) (d : ℕ) (parser : Parser A)
+until_n : {A : Type 0} (item : Grammar A) (d : ℕ) (parser : Parser A)
     → ((ts : Lexemes) → Follows item (N Stmt d ∷ []) ts (parser ts))
     → ((x : A) (us : Lexemes) → item x us → 0 < length us)
     → (n : ℕ) (found : List A) (ts : Lexemes) → length ts < n
-    → Follows (Adds (g.many item) found) (N Stmts d ∷ []) ts (p.until_from t.Dedent parser n found ts)
-unfolding p.until_from
-until_from item d parser h one zero found ts lt = absurd (omega arith)
-until_from item d parser h one (suc n) found ts lt =
-    until_by item d parser (p.until_from t.Dedent parser n) found ts (h ts)
-    (λ x us tk. until_from item d parser h one n (found ++ x ∷ []) us
+    → Follows (Adds (g.many item) found) (N Stmts d ∷ []) ts (p.until_n t.Dedent parser n found ts)
+unfolding p.until_n
+until_n item d parser h one zero found ts lt = absurd (omega arith)
+until_n item d parser h one (suc n) found ts lt =
+    until_by item d parser (p.until_n t.Dedent parser n) found ts (h ts)
+    (λ x us tk. until_n item d parser h one n (found ++ x ∷ []) us
     (let le = shorter tk (one x tk.used tk.is) in omega arith))
     (kind ts) refl
 
@@ -174,4 +174,4 @@ pub until_follows : {A : Type 0} (item : Grammar A) (d : ℕ) (parser : Parser A
     → ((x : A) (us : Lexemes) → item x us → 0 < length us) → (found : List A) (ts : Lexemes)
     → Follows (Adds (g.many item) found) (N Stmts d ∷ []) ts (p.until t.Dedent parser found ts)
 unfolding p.until
-until_follows item d parser h one found ts = until_from item d parser h one (suc (length ts)) found ts (omega arith)
+until_follows item d parser h one found ts = until_n item d parser h one (suc (length ts)) found ts (omega arith)

@@ -174,11 +174,11 @@ part_by_follow depth again found ts t.End is h =
 part_by_follow depth again found ts _ is h = no_row (ap (λ z. row k.Parts depth z) is)
 
 parts_from_follow : (depth n : ℕ) (found : Halves) (ts : Lexemes) → length ts < n
-    → Follows (Gathers depth found) (N k.Parts depth ∷ []) ts (b.parts_from depth n found ts)
-unfolding b.parts_from
+    → Follows (Gathers depth found) (N k.Parts depth ∷ []) ts (b.parts_n depth n found ts)
+unfolding b.parts_n
 parts_from_follow depth zero found ts turns = absurd (omega arith)
 parts_from_follow depth (suc n) found ts turns =
-    part_by_follow depth (b.parts_from depth n) found ts (kind ts) refl
+    part_by_follow depth (b.parts_n depth n) found ts (kind ts) refl
     (λ found' us left. parts_from_follow depth n found' us (omega arith))
 
 parts_as : (depth : ℕ) (y : Halves) (us : Lexemes) → Gathers depth ([], []) y us → g.parts depth y us
@@ -213,11 +213,11 @@ part_by_end depth again found ts t.Text is h = end_later (p.expect t.Newline (ne
 part_by_end depth again found ts t.End is h = is
 part_by_end depth again found ts _ is h = tt
 
-parts_from_end : (depth n : ℕ) (found : Halves) (ts : Lexemes) → AtEnd (b.parts_from depth n found ts)
-unfolding b.parts_from
+parts_from_end : (depth n : ℕ) (found : Halves) (ts : Lexemes) → AtEnd (b.parts_n depth n found ts)
+unfolding b.parts_n
 parts_from_end depth zero found ts = tt
 parts_from_end depth (suc n) found ts =
-    part_by_end depth (b.parts_from depth n) found ts (kind ts) refl (λ found' us. parts_from_end depth n found' us)
+    part_by_end depth (b.parts_n depth n) found ts (kind ts) refl (λ found' us. parts_from_end depth n found' us)
 
 pub parts_end : (depth : ℕ) (ts : Lexemes) → AtEnd (b.parts depth ts)
 unfolding b.parts

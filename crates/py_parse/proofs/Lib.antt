@@ -25,6 +25,6 @@ pub mod NextLaws
 pub mod NoteLaws
 pub mod Rows
 pub mod Trailers
-pub mod Turns
+pub mod Turn
 pub mod Values
 pub mod Viable

@@ -14,7 +14,7 @@ use Rattle.py_parse.specs.Descent.{expr}
 use Rattle.py_parse.specs.Grammar as g
 use Rattle.py_parse.specs.Grammar.{Grammar, ◌>>=◌}
 use Rattle.py_parse.specs.Lexemes.{Lexemes}
-use Rattle.py_parse.specs.Parser.{Parser, and_then, pure, kind, expect, name, until_from, until}
+use Rattle.py_parse.specs.Parser.{Parser, and_then, pure, kind, expect, name, until_n, until}
 use Rattle.py_parse.proofs.ReadSteps.{seq, split, shift, only, same_self, not_same}
 use Rattle.py_parse.proofs.ReadLines.{lex, finish, front, expected, named, before, class, Starts, starts_token}
 use Rattle.py_parse.proofs.ReadLines.{starts_front, starts_wider, starts_low, starts_high, starts_length, line_starts}
@@ -39,14 +39,14 @@ pub record TailsRead (tail : Arms → Parser Stmt) (R : Grammar Tail) : Type 0 w
 -- ---- statements up to a Dedent
 
 until_ends : (item : Parser Stmt) (n : ℕ) (found : List Stmt) (ts : Lexemes) → kind ts ≡ t.Dedent
-    → until_from t.Dedent item (suc n) found ts ≡ Ok (found, ts)
-unfolding until_from
+    → until_n t.Dedent item (suc n) found ts ≡ Ok (found, ts)
+unfolding until_n
 until_ends item n found ts is = rw is (rw (same_self t.Dedent) refl)
 
 until_goes : (item : Parser Stmt) (n : ℕ) (found : List Stmt) (ts : Lexemes) → kind ts ≢ t.Dedent
-    → until_from t.Dedent item (suc n) found ts ≡ and_then (item ts)
-    (λ x us. until_from t.Dedent item n (found ++ x ∷ []) us)
-unfolding until_from
+    → until_n t.Dedent item (suc n) found ts ≡ and_then (item ts)
+    (λ x us. until_n t.Dedent item n (found ++ x ∷ []) us)
+unfolding until_n
 until_goes item n found ts differs = rw (not_same (kind ts) t.Dedent differs) refl
 
 no_dedent : (k : Terminal) → 1 ≤ class k → k ≢ t.Dedent
@@ -64,16 +64,16 @@ between item R h (x ∷ xs) used rest (a, b, parts, isx, are) ends =
 until_read : (item : Parser Stmt) (R : Grammar Stmt) → StatementsRead item R
     → (xs : List Stmt) (n : ℕ) (found : List Stmt) (used rest : Lexemes)
     → g.many R xs used → kind rest ≡ t.Dedent → length (used ++ rest) < n
-    → until_from t.Dedent item n found (used ++ rest) ≡ Ok (found ++ xs, rest)
+    → until_n t.Dedent item n found (used ++ rest) ≡ Ok (found ++ xs, rest)
 until_read item R h xs zero found used rest are ends turns = absurd (omega arith)
 until_read item R h [] (suc n) found used rest are ends turns =
-    ap (λ (z : Lexemes). until_from t.Dedent item (suc n) found (z ++ rest)) are
+    ap (λ (z : Lexemes). until_n t.Dedent item (suc n) found (z ++ rest)) are
     ∙ (until_ends item n found rest ends ∙ ap (λ (z : List Stmt). pure z rest) (sym (append-nil found)))
 until_read item R h (x ∷ xs) (suc n) found used rest (a, b, parts, isx, are) ends turns =
     let starts = h.starts x a isx in
     let len : length (b ++ rest) < n =
     omega (arith, starts_length 3 a starts, ap length (split used a b rest parts), length-append a (b ++ rest)) in
-    ap (until_from t.Dedent item (suc n) found) (split used a b rest parts)
+    ap (until_n t.Dedent item (suc n) found) (split used a b rest parts)
     ∙ (until_goes item n found (a ++ (b ++ rest))
     (no_dedent (kind (a ++ (b ++ rest))) (starts_low 3 a (b ++ rest) starts))
     ∙ seq (item (a ++ (b ++ rest))) _ x (b ++ rest) _

@@ -7,7 +7,7 @@ use Rattle.py_parse.specs.declared.terminal.Terminal.{Terminal}
 use Rattle.py_parse.specs.declared.terminal.Terminal.TheVariants as t
 use Rattle.py_parse.specs.declared.tree.Expr.{Expr}
 use Rattle.py_parse.specs.declared.tree.Trailer.{Trailer}
-use Rattle.py_parse.specs.Descent.{Inner, links_from, links, chain, compared, inverted_by, inverted, joins_from, joins}
+use Rattle.py_parse.specs.Descent.{Inner, links_n, links, chain, compared, inverted_by, inverted, joins_n, joins}
 use Rattle.py_parse.specs.Descent.{conjunction, disjunction, expr, inside, trailers}
 use Rattle.py_parse.specs.Grammar as g
 use Rattle.py_parse.specs.Lexemes.{Lexeme, Lexemes, same}
@@ -41,8 +41,8 @@ links_next level R (x ∷ xs) used rest (a, b, parts, (op, c, d, a_parts, (k, is
 links_from_read : (level : ℕ) (operand : Parser Expr) (R : g.Grammar Expr) → Operand (level + 1) operand R
     → (n : ℕ) (found xs : Links) (used rest : Lexemes) → g.many (g.link (operator_at level) R) xs used
     → level + 2 < loose (kind rest) → length (used ++ rest) ≤ n
-    → links_from level operand n found (used ++ rest) ≡ Ok (found ++ xs, rest)
-unfolding links_from
+    → links_n level operand n found (used ++ rest) ≡ Ok (found ++ xs, rest)
+unfolding links_n
 links_from_read level operand R read zero found [] used rest empty far turns = rw (empty, append-nil found) refl
 links_from_read level operand R read (suc n) found [] used rest empty far turns =
     rw (empty, append-nil found, no_operator level (kind rest) far) refl
@@ -203,8 +203,8 @@ joins_next n word R tight (x ∷ xs) used rest (a, b, parts, (at, c, d, a_parts,
 joins_from_read : (n : ℕ) (word : Terminal) (operand : Parser Expr) (R : g.Grammar Expr) → loose word ≡ suc n
     → Operand n operand R → (turns : ℕ) (found xs : Joins) (used rest : Lexemes) → g.many (g.join word R) xs used
     → suc n < loose (kind rest) → length (used ++ rest) ≤ turns
-    → joins_from word operand turns found (used ++ rest) ≡ Ok (found ++ xs, rest)
-unfolding joins_from
+    → joins_n word operand turns found (used ++ rest) ≡ Ok (found ++ xs, rest)
+unfolding joins_n
 joins_from_read n word operand R tight read zero found [] used rest empty far enough = rw (empty, append-nil found) refl
 joins_from_read n word operand R tight read (suc turns) found [] used rest empty far enough =
     rw (empty, append-nil found, looser (kind rest) word (omega arith)) refl

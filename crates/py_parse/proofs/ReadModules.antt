@@ -7,7 +7,7 @@ use Rattle.py_parse.specs.declared.tree.Name.{Name}
 use Rattle.py_parse.specs.declared.tree.Import.{Import}
 use Rattle.py_parse.specs.declared.tree.Function.{Function}
 use Rattle.py_parse.specs.declared.tree.Stmt.{Stmt}
-use Rattle.py_parse.specs.Blocks.{alias_by, imported, defined, weighed, function, block, Parts, part_by, parts_from}
+use Rattle.py_parse.specs.Blocks.{alias_by, imported, defined, weighed, function, block, Parts, part_by, parts_n}
 use Rattle.py_parse.specs.Blocks.{parts}
 use Rattle.py_parse.specs.Grammar as g
 use Rattle.py_parse.specs.Grammar.{Grammar, ◌>>=◌, Part, Imported, Defined, Said, imports_of, functions_of}
@@ -193,40 +193,40 @@ one_more found (Defined x) xs = ap (λ (z : List Function). (found.0 ++ imports_
 one_more found Said xs = refl
 
 part_step : (depth n : ℕ) (found : Parts) (y : Part) (used rest : Lexemes) → g.part depth y used
-    → parts_from depth (suc n) found (used ++ rest) ≡ parts_from depth n (added found y) rest
-unfolding parts_from
+    → parts_n depth (suc n) found (used ++ rest) ≡ parts_n depth n (added found y) rest
+unfolding parts_n
 part_step depth n found y used rest (inl (x, a, b, p1, is, (y_is, b_is))) =
-    ap (λ (z : Lexemes). parts_from depth (suc n) found (z ++ rest)) (only used a b p1 b_is)
-    ∙ (ap (λ (k : Terminal). part_by depth (parts_from depth n) found k (a ++ rest)) (imported_kind x a rest is)
+    ap (λ (z : Lexemes). parts_n depth (suc n) found (z ++ rest)) (only used a b p1 b_is)
+    ∙ (ap (λ (k : Terminal). part_by depth (parts_n depth n) found k (a ++ rest)) (imported_kind x a rest is)
     ∙ (seq (imported (a ++ rest)) _ x rest _ (imported_read x a rest is) refl
-    ∙ ap (λ (z : Part). parts_from depth n (added found z) rest) (sym y_is)))
+    ∙ ap (λ (z : Part). parts_n depth n (added found z) rest) (sym y_is)))
 part_step depth n found y used rest (inr (inl (x, a, b, p1, (is, weight), (y_is, b_is)))) =
-    ap (λ (z : Lexemes). parts_from depth (suc n) found (z ++ rest)) (only used a b p1 b_is)
-    ∙ (ap (λ (k : Terminal). part_by depth (parts_from depth n) found k (a ++ rest))
+    ap (λ (z : Lexemes). parts_n depth (suc n) found (z ++ rest)) (only used a b p1 b_is)
+    ∙ (ap (λ (k : Terminal). part_by depth (parts_n depth n) found k (a ++ rest))
     (defined_kind depth (x.name, x.params, x.body) a rest is)
     ∙ (seq (function depth (a ++ rest)) _ x rest _ (function_read depth x a rest (is, weight)) refl
-    ∙ ap (λ (z : Part). parts_from depth n (added found z) rest) (sym y_is)))
+    ∙ ap (λ (z : Part). parts_n depth n (added found z) rest) (sym y_is)))
 part_step depth n found y used rest
     (inr (inr (at, a, b, p1, (text, tok), (at2, c, d, p2, (text2, tok2), (y_is, d_is))))) =
-    ap (parts_from depth (suc n) found) (shift used a b rest (lex t.Text at text) p1 tok)
+    ap (parts_n depth (suc n) found) (shift used a b rest (lex t.Text at text) p1 tok)
     ∙ (seq (expect t.Newline (b ++ rest)) _ at2 (d ++ rest) _ (expected t.Newline b c d rest at2 text2 p2 tok2) refl
-    ∙ (ap (λ (z : Lexemes). parts_from depth n found (z ++ rest)) d_is
-    ∙ ap (λ (z : Part). parts_from depth n (added found z) rest) (sym y_is)))
+    ∙ (ap (λ (z : Lexemes). parts_n depth n found (z ++ rest)) d_is
+    ∙ ap (λ (z : Part). parts_n depth n (added found z) rest) (sym y_is)))
 
 gathered_read : (depth n : ℕ) (found : Parts) (xs : List Part) (used rest : Lexemes) → g.many (g.part depth) xs used
     → kind rest ≡ t.End
-    → length (used ++ rest) < n → parts_from depth n found (used ++ rest) ≡ Ok (gathered found xs, rest)
-unfolding parts_from
+    → length (used ++ rest) < n → parts_n depth n found (used ++ rest) ≡ Ok (gathered found xs, rest)
+unfolding parts_n
 gathered_read depth zero found xs used rest are ends turns = absurd (omega arith)
 gathered_read depth (suc n) found [] used rest are ends turns =
-    ap (λ (z : Lexemes). parts_from depth (suc n) found (z ++ rest)) are
-    ∙ (ap (λ (k : Terminal). part_by depth (parts_from depth n) found k rest) ends
+    ap (λ (z : Lexemes). parts_n depth (suc n) found (z ++ rest)) are
+    ∙ (ap (λ (k : Terminal). part_by depth (parts_n depth n) found k rest) ends
     ∙ (ap (λ (z : List Import). pure (z, found.1) rest) (sym (append-nil found.0))
     ∙ ap (λ (z : List Function). pure (found.0 ++ [], z) rest) (sym (append-nil found.1))))
 gathered_read depth (suc n) found (x ∷ xs) used rest (a, b, p1, isx, are) ends turns =
     let len : length (b ++ rest) < n =
     omega (arith, part_length depth x a isx, ap length (split used a b rest p1), length-append a (b ++ rest)) in
-    ap (parts_from depth (suc n) found) (split used a b rest p1)
+    ap (parts_n depth (suc n) found) (split used a b rest p1)
     ∙ (part_step depth n found x a (b ++ rest) isx
     ∙ (gathered_read depth n (added found x) xs b rest are ends len
     ∙ ap (λ (z : Parts). pure z rest) (one_more found x xs)))

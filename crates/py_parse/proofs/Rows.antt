@@ -1,7 +1,7 @@
 -- What the rules are at a number of levels that isn't written as a successor.
 use Rattle.std.proofs.Common.{◌≡◌, ℕ, zero, suc, ◌+◌, ◌-◌, ◌≢◌, List, [], ◌∷◌, ◌++◌, Option, Some, None, Ok, Err, refl}
 use Rattle.std.proofs.Common.{ap, arith}
-use Rattle.py_parse.proofs.Turns.{turn}
+use Rattle.py_parse.proofs.Turn.{up}
 use Rattle.py_parse.specs.Parser.{Parser, Outcome, ◌>>=◌, and_then, pure, peek, deeper, kind}
 use Rattle.py_parse.specs.Descent.{Inner, inside, expr, disjunction, inverted, inverted_by, compared, chain, unary}
 use Rattle.py_parse.specs.Descent.{signed, power, links, trailers_by, trailers_from, call, pick, attribute}
@@ -126,4 +126,4 @@ trailers_end inner (suc n) found ts e = absurd (omega arith)
 
 pub ruleset inverted_rows = (inverted_zero, inverted_suc, inverted_other)
 
-pub ruleset trailers_turn = (turn, trailers_step, trailers_end)
+pub ruleset trailers_turn = (up, trailers_step, trailers_end)

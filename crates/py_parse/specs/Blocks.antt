@@ -226,11 +226,11 @@ part_by depth again parts t.Text = do
 part_by depth again parts t.End = pure parts
 part_by depth again parts _ = refuse
 
-unfoldable pub parts_from : ℕ → ℕ → Parts → Parser Parts
-parts_from depth zero parts = refuse
-parts_from depth (suc n) parts = do
+unfoldable pub parts_n : ℕ → ℕ → Parts → Parser Parts
+parts_n depth zero parts = refuse
+parts_n depth (suc n) parts = do
   kind ← peek
-  part_by depth (parts_from depth n) parts kind
+  part_by depth (parts_n depth n) parts kind
 
 unfoldable pub parts : ℕ → Parser Parts
-parts depth = λ ts. parts_from depth (suc (length ts)) ([], []) ts
+parts depth = λ ts. parts_n depth (suc (length ts)) ([], []) ts

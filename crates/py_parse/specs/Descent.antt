@@ -208,14 +208,14 @@ links_by again operand found (Some op) = do
   again (found ++ (op, loc, x) ∷ [])
 links_by again operand found None = pure found
 
-unfoldable pub links_from : ℕ → Parser Expr → ℕ → List (BinOp × Loc × Expr) → Parser (List (BinOp × Loc × Expr))
-links_from level operand zero found = pure found
-links_from level operand (suc n) found = do
+unfoldable pub links_n : ℕ → Parser Expr → ℕ → List (BinOp × Loc × Expr) → Parser (List (BinOp × Loc × Expr))
+links_n level operand zero found = pure found
+links_n level operand (suc n) found = do
   kind ← peek
-  links_by (links_from level operand n) operand found (operator_at level kind)
+  links_by (links_n level operand n) operand found (operator_at level kind)
 
 unfoldable pub links : ℕ → Parser Expr → Parser (List (BinOp × Loc × Expr))
-links level operand = λ ts. links_from level operand (length ts) [] ts
+links level operand = λ ts. links_n level operand (length ts) [] ts
 
 -- operands joined by the operators of a level and below
 unfoldable pub chain : Inner → ℕ → ℕ → ℕ → Parser Expr
@@ -260,14 +260,14 @@ joined_by again operand found = do
   x ← operand
   again (found ++ (loc, x) ∷ [])
 
-unfoldable pub joins_from : Terminal → Parser Expr → ℕ → List (Loc × Expr) → Parser (List (Loc × Expr))
-joins_from word operand zero found = pure found
-joins_from word operand (suc n) found = do
+unfoldable pub joins_n : Terminal → Parser Expr → ℕ → List (Loc × Expr) → Parser (List (Loc × Expr))
+joins_n word operand zero found = pure found
+joins_n word operand (suc n) found = do
   kind ← peek
-  if same kind word then joined_by (joins_from word operand n) operand found else pure found
+  if same kind word then joined_by (joins_n word operand n) operand found else pure found
 
 unfoldable pub joins : Terminal → Parser Expr → Parser (List (Loc × Expr))
-joins word operand = λ ts. joins_from word operand (length ts) [] ts
+joins word operand = λ ts. joins_n word operand (length ts) [] ts
 
 unfoldable pub conjunction : Inner → ℕ → Parser Expr
 conjunction inner whole = do

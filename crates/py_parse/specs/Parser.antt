@@ -110,14 +110,14 @@ unfoldable pub more : {A : Type 0} → Terminal → Parser A → List A → Pars
 more close item found = behind_comma close (some close item) found
 
 -- items up to `close`, after those that were found; each takes a lexeme at least
-unfoldable pub until_from : {A : Type 0} → Terminal → Parser A → ℕ → List A → Parser (List A)
-until_from close item zero found = refuse
-until_from close item (suc n) found = do
+unfoldable pub until_n : {A : Type 0} → Terminal → Parser A → ℕ → List A → Parser (List A)
+until_n close item zero found = refuse
+until_n close item (suc n) found = do
   kind ← peek
-  if same kind close then pure found else (do x ← item; until_from close item n (found ++ x ∷ []))
+  if same kind close then pure found else (do x ← item; until_n close item n (found ++ x ∷ []))
 
 unfoldable pub until : {A : Type 0} → Terminal → Parser A → List A → Parser (List A)
-until close item found = λ ts. until_from close item (suc (length ts)) found ts
+until close item found = λ ts. until_n close item (suc (length ts)) found ts
 
 -- a call reads what the parser reads; where that is refused the cursor stands at the refused lexeme
 abbrev pub Reads : {A : Type 0} → Outcome A → Result A Failure → Lexemes → Type 0

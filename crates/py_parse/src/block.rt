@@ -29,7 +29,7 @@ fn deeper(depth: u8) -> Result<u8, Failure>
 
 // The statements of a block up to its Dedent, after the first.
 #[cycle(blocks)]
-#[tactic(auto, using(crate::proofs::Turns::turn), unfolding(crate::specs::Parser::until, crate::specs::Parser::until_from))]
+#[tactic(auto, using(crate::proofs::Turn::up), unfolding(crate::specs::Parser::until, crate::specs::Parser::until_n))]
 fn statements_from(
     alloc: Global,
     tokens: &mut Cursor<'_>,
@@ -111,7 +111,7 @@ fn otherwise(
 
 // What follows these arms. An `elif` and all that follows it stand one level further in.
 #[cycle(blocks)]
-#[tactic(auto, using(crate::proofs::BlockLevelLaws::tail_is), unfolding(crate::specs::Blocks::tail_with, crate::specs::Blocks::elif_with))]
+#[tactic(auto, unfolding(crate::specs::Blocks::tail_with, crate::specs::Blocks::elif_with))]
 fn tail(
     alloc: Global,
     tokens: &mut Cursor<'_>,

@@ -33,7 +33,7 @@ pub(crate) fn expr(alloc: Global, tokens: &mut Cursor<'_>, depth: u8) -> Result<
 }
 
 #[cycle(expr)]
-#[tactic(auto, using(crate::proofs::Turns::turn), unfolding(crate::specs::Descent::joins, crate::specs::Descent::joins_from))]
+#[tactic(auto, using(crate::proofs::Turn::up), unfolding(crate::specs::Descent::joins, crate::specs::Descent::joins_n))]
 fn or_operands(
     alloc: Global,
     tokens: &mut Cursor<'_>,
@@ -64,7 +64,7 @@ fn conjunction(alloc: Global, tokens: &mut Cursor<'_>, depth: u8) -> Result<Expr
 }
 
 #[cycle(expr)]
-#[tactic(auto, using(crate::proofs::Turns::turn), unfolding(crate::specs::Descent::joins, crate::specs::Descent::joins_from))]
+#[tactic(auto, using(crate::proofs::Turn::up), unfolding(crate::specs::Descent::joins, crate::specs::Descent::joins_n))]
 fn and_operands(
     alloc: Global,
     tokens: &mut Cursor<'_>,
@@ -157,7 +157,7 @@ fn chain(
 }
 
 #[cycle(expr)]
-#[tactic(auto, using(crate::proofs::Turns::turn), unfolding(crate::specs::Descent::links, crate::specs::Descent::links_from))]
+#[tactic(auto, using(crate::proofs::Turn::up), unfolding(crate::specs::Descent::links, crate::specs::Descent::links_n))]
 fn links(
     alloc: Global,
     tokens: &mut Cursor<'_>,

@@ -39,7 +39,7 @@ fn imported(alloc: Global, tokens: &mut Cursor<'_>) -> Result<Import, Failure>
     aliased(alloc, tokens, module)
 }
 
-#[tactic(auto, using(crate::proofs::Turns::turn), unfolding(crate::specs::Parser::some, crate::specs::Parser::some_from))]
+#[tactic(auto, using(crate::proofs::Turn::up), unfolding(crate::specs::Parser::some, crate::specs::Parser::some_from))]
 fn some_names(alloc: Global, tokens: &mut Cursor<'_>) -> Result<Seq<Name>, Failure>
     ensures { Reads (some t.CloseParen name [] tokens.old) result tokens.new }
 {
@@ -100,7 +100,7 @@ fn function(alloc: Global, tokens: &mut Cursor<'_>, depth: u8) -> Result<Functio
 }
 
 /// The imports and the functions of a module, up to its End, which isn't taken.
-#[tactic(auto, using(crate::proofs::Turns::turn), unfolding(crate::specs::Blocks::parts, crate::specs::Blocks::parts_from))]
+#[tactic(auto, using(crate::proofs::Turn::up), unfolding(crate::specs::Blocks::parts, crate::specs::Blocks::parts_n))]
 pub fn parts(
     alloc: Global,
     tokens: &mut Cursor<'_>,

@@ -236,7 +236,7 @@ pub(crate) fn expressions(
 }
 
 #[cycle(expr)]
-#[tactic(auto, using(crate::proofs::Turns::turn), unfolding(crate::specs::Parser::some, crate::specs::Parser::some_from))]
+#[tactic(auto, using(crate::proofs::Turn::up), unfolding(crate::specs::Parser::some, crate::specs::Parser::some_from))]
 fn some_expressions(
     alloc: Global,
     tokens: &mut Cursor<'_>,
@@ -271,7 +271,7 @@ fn args(alloc: Global, tokens: &mut Cursor<'_>, depth: u8) -> Result<Seq<Arg>, F
 }
 
 #[cycle(expr)]
-#[tactic(auto, using(crate::proofs::Turns::turn), unfolding(crate::specs::Parser::some, crate::specs::Parser::some_from))]
+#[tactic(auto, using(crate::proofs::Turn::up), unfolding(crate::specs::Parser::some, crate::specs::Parser::some_from))]
 fn some_args(alloc: Global, tokens: &mut Cursor<'_>, depth: u8) -> Result<Seq<Arg>, Failure>
     ensures { Reads (parser.some t.CloseParen (spec.arg (spec.expr depth)) [] tokens.old) result tokens.new }
 {
@@ -311,7 +311,7 @@ fn arg(alloc: Global, tokens: &mut Cursor<'_>, depth: u8) -> Result<Arg, Failure
 }
 
 #[cycle(expr)]
-#[tactic(auto, using(crate::proofs::Turns::turn), unfolding(crate::specs::Parser::some, crate::specs::Parser::some_from))]
+#[tactic(auto, using(crate::proofs::Turn::up), unfolding(crate::specs::Parser::some, crate::specs::Parser::some_from))]
 fn subscripts(alloc: Global, tokens: &mut Cursor<'_>, depth: u8) -> Result<Seq<Sub>, Failure>
     ensures { Reads (parser.some t.CloseBracket (spec.subscript (spec.expr depth)) [] tokens.old) result tokens.new }
 {

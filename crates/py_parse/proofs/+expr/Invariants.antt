@@ -92,18 +92,18 @@ decreases-operand::bound l = 2000 * l.depth + 1404
 
 abbrev pub invariant-expr::or_operands-loop-turn : goal.invariant-expr::or_operands-loop-turn
 invariant-expr::or_operands-loop-turn l =
-    spec.joins t.Or (spec.conjunction (spec.inside l.depth) l.depth) l.fn.tokens ≡ spec.joins_from t.Or
+    spec.joins t.Or (spec.conjunction (spec.inside l.depth) l.depth) l.fn.tokens ≡ spec.joins_n t.Or
     (spec.conjunction (spec.inside l.depth) l.depth) (l._turn-end - l._turn) l.found.items l.tokens
 
 abbrev pub invariant-expr::and_operands-loop-turn : goal.invariant-expr::and_operands-loop-turn
 invariant-expr::and_operands-loop-turn l =
-    spec.joins t.And (spec.inverted (spec.inside l.depth) l.depth l.depth) l.fn.tokens ≡ spec.joins_from t.And
+    spec.joins t.And (spec.inverted (spec.inside l.depth) l.depth l.depth) l.fn.tokens ≡ spec.joins_n t.And
     (spec.inverted (spec.inside l.depth) l.depth l.depth) (l._turn-end - l._turn) l.found.items l.tokens
 
 abbrev pub invariant-expr::links-loop-turn : goal.invariant-expr::links-loop-turn
 invariant-expr::links-loop-turn l =
     spec.links l.level (spec.chain (spec.inside l.depth) l.depth
-    (l.level - 1) l.depth) l.fn.tokens ≡ spec.links_from l.level
+    (l.level - 1) l.depth) l.fn.tokens ≡ spec.links_n l.level
     (spec.chain (spec.inside l.depth) l.depth (l.level - 1) l.depth) (l._turn-end - l._turn) l.found.items l.tokens
 
 abbrev pub invariant-operand::trailers-loop-turn : goal.invariant-operand::trailers-loop-turn

@@ -1,7 +1,7 @@
 use Rattle.std.proofs.Common.{◌≡◌, ◌+◌, ◌-◌, ◌*◌, [], ◌∷◌}
 use Rattle.py_parse.specs.declared.terminal.Terminal.TheVariants as t
 use Rattle.py_parse.specs.Blocks as spec
-use Rattle.py_parse.specs.Parser.{until, until_from}
+use Rattle.py_parse.specs.Parser.{until, until_n}
 use Rattle.py_parse.proofs.block.+blocks.Given as goal
 
 abbrev pub decreases-arm : goal.decreases-arm
@@ -30,5 +30,5 @@ decreases-tail l = 8 * l.depth + 4
 
 abbrev pub invariant-statements_from-loop-turn : goal.invariant-statements_from-loop-turn
 invariant-statements_from-loop-turn l =
-    until t.Dedent (spec.stmt l.depth) (l.fn.first ∷ []) l.fn.tokens ≡ until_from t.Dedent (spec.stmt l.depth)
+    until t.Dedent (spec.stmt l.depth) (l.fn.first ∷ []) l.fn.tokens ≡ until_n t.Dedent (spec.stmt l.depth)
     (l._turn-end - l._turn) l.found.items l.tokens
