@@ -6,3 +6,10 @@ pub mod Zips
 pub mod SmallPowers
 pub mod Stores
 pub mod Keeping
+pub mod Each
+pub mod KindLaws
+pub mod Trees
+pub mod Typed
+pub mod TypedWorks
+pub mod TypedRuns
+pub mod KeptBuffers

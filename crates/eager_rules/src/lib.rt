@@ -11,9 +11,12 @@ mod laws;
 mod map_work;
 mod outcome;
 mod program;
+mod small;
 mod state;
 mod statement;
 mod subscripts;
+#[cfg(test)]
+mod tests;
 mod turns;
 mod work;
 
@@ -23,3 +26,4 @@ pub use evaluation::eager;
 pub use laws::{operations_leave_buffers, stores_are_read, typed_has_small_powers};
 pub use outcome::{Counts, Outcome, Value};
 pub use program::{Core, CoreSub, Instance, Oper, Program, WordOp};
+pub use small::has_small_powers;
