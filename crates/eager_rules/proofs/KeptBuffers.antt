@@ -86,7 +86,7 @@ done_typed rows names rets (s, Returned values) h = h
 done_typed rows names rets (s, Faulted fault at) h = h
 done_typed rows names rets (s, Stuck) h = h
 
-at_number : (P : Instance → Type 0) (instances : List Instance) (i : ℕ) (f : Instance) → All P instances →
+pub at_number : (P : Instance → Type 0) (instances : List Instance) (i : ℕ) (f : Instance) → All P instances →
     slice_get instances i ≡ Some f → P f
 at_number P instances i f all e =
     subst P (get_or_from_slice_get instances i f f e) (all i f (slice_get_within instances i f e))

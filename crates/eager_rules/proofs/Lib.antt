@@ -13,3 +13,6 @@ pub mod Typed
 pub mod TypedWorks
 pub mod TypedRuns
 pub mod KeptBuffers
+pub mod Chains
+pub mod Ready
+pub mod NeverStuck

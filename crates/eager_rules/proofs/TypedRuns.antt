@@ -173,7 +173,7 @@ choice_typed names rets (pos (suc k)) part other m n = m
 choice_typed names rets (negsuc k) part other m n = m
 
 -- What the tests of types say.
-some_given : {A : Type 0} (o : Option A) (test : A → Bool) → given_types o test ≡ true →
+pub some_given : {A : Type 0} (o : Option A) (test : A → Bool) → given_types o test ≡ true →
     (x : A) × (o ≡ Some x) × (test x ≡ true)
 some_given None test h = not_true h
 some_given (Some x) test h = (x, refl, h)
@@ -197,7 +197,7 @@ array_given (Some u) t h =
     let found = kept_by (is_array u) u t h in
     (ap (λ (x : Ty). Some x) found.0, subst (λ (x : Ty). is_array x ≡ true) found.0 found.1)
 
-add_given : (o : Option Ty) (os : Option (List Ty)) (types : List Ty) → add_type o os ≡ Some types →
+pub add_given : (o : Option Ty) (os : Option (List Ty)) (types : List Ty) → add_type o os ≡ Some types →
     (t : Ty) × (rest : List Ty) × (o ≡ Some t) × (os ≡ Some rest) × (t ∷ rest ≡ types)
 add_given None os types h = none_some types h
 add_given (Some t) None types h = none_some types h
@@ -212,7 +212,7 @@ reads_given names (x ∷ xs) types h =
     subst (λ (ts : List Ty). Reads names (x ∷ xs) ts) found.4
     (found.2, reads_given names xs found.1 found.3)
 
-names_given : (names : List Ty) (to : List ℕ) (types : List Ty) → named_types names to ≡ Some types →
+pub names_given : (names : List Ty) (to : List ℕ) (types : List Ty) → named_types names to ≡ Some types →
     Named names to types
 names_given names [] types h = tt
 names_given names (name ∷ to) types h =
