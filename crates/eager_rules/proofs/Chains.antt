@@ -8,20 +8,18 @@ use Rattle.std.proofs.lemmas.Grind.{flat_map-append}
 use Rattle.std.proofs.lemmas.List.FromFn.{length-map-range_with_len}
 use Rattle.std.proofs.lemmas.Option.{slice_get_within}
 use Rattle.std.specs.Prelude.{◌⊎◌}
-use Rattle.std.specs.List.{All, AllByRecursion, flat_map, range_with_len}
+use Rattle.std.specs.List.{AllByRecursion, flat_map, range_with_len}
 use Rattle.array_ops.specs.Elements.{Bound}
-use Rattle.eager_rules.proofs.Each.{none_some}
 use Rattle.eager_rules.proofs.Trees.{Good, by_layers, fused}
-use Rattle.eager_rules.specs.Blocks.{Meaning, in_order, then_do, loop_over, choice}
+use Rattle.eager_rules.specs.Blocks.{Meaning, in_order, loop_over, choice}
 use Rattle.eager_rules.specs.Eager.{Calls, block, called, calls_at, done_of, entered, meaning, ready, set_variable}
 use Rattle.eager_rules.specs.Eager.{statement, step, where_ready, word_at_operand}
 use Rattle.eager_rules.specs.Laws.{IsDeepEnough}
-use Rattle.eager_rules.specs.Outcome.{buffers_of, ended, instance_outcome}
-use Rattle.eager_rules.specs.Sound.{CallsBelow, HasNoCycle}
+use Rattle.eager_rules.specs.Outcome.{buffers_of, ended}
+use Rattle.eager_rules.specs.Sound.{HasNoCycle}
 use Rattle.eager_rules.specs.State.{State, bound_to}
-use Rattle.eager_rules.specs.Statements.{blocks_of, calls_of, calls_step}
-use Rattle.eager_rules.specs.Works.{Blocked, Work, range_values}
-use Rattle.eager_rules.specs.declared.call.Call.{Call}
+use Rattle.eager_rules.specs.Statements.{calls_of, calls_step}
+use Rattle.eager_rules.specs.Works.{Work, range_values}
 use Rattle.eager_rules.specs.declared.program.Core.{Core}
 use Rattle.eager_rules.specs.declared.program.Core.TheOpen as c
 use Rattle.eager_rules.specs.declared.program.Core.TheFolds.{fold-Core, map-Core, fold-roll-Core}

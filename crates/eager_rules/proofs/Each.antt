@@ -1,5 +1,5 @@
 -- A relation between the items of two lists of one length, place by place.
-use Rattle.std.proofs.Common.{◌≡◌, ap, subst, sym, refl, ℕ, zero, suc, List, [], ◌∷◌, ◌++◌, map, length, take}
+use Rattle.std.proofs.Common.{◌≡◌, ap, subst, sym, refl, ℕ, zero, suc, List, [], ◌∷◌, ◌++◌, length, take}
 use Rattle.std.proofs.Common.{slice_index_or, slice_get, Some, None}
 use Rattle.std.specs.Prelude.{slice_set, Option, unwrap_or}
 

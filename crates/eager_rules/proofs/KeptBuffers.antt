@@ -1,6 +1,6 @@
 -- What a call that fits leaves in its buffers.
-use Rattle.std.proofs.Common.{arith, ◌≡◌, ◌∙◌, ◌+◌, ◌<◌, ap, sym, subst, refl, ℕ, zero, suc, ℤ, Bool, true, false}
-use Rattle.std.proofs.Common.{List, [], ◌∷◌, map, length, replicate, slice_index_or, slice_get, Option, Some, None, take}
+use Rattle.std.proofs.Common.{arith, ◌≡◌, ◌∙◌, ◌+◌, ap, sym, subst, refl, ℕ, zero, suc, ℤ}
+use Rattle.std.proofs.Common.{List, [], ◌∷◌, map, length, replicate, slice_get, Option, Some, None, take}
 use Rattle.std.proofs.lemmas.List.{length-map}
 use Rattle.std.proofs.lemmas.Option.{slice_get-map, get_or_from_slice_get, slice_get_within}
 use Rattle.std.proofs.lemmas.List.Elements.{All-head, All-tail}
@@ -11,20 +11,20 @@ use Rattle.krn_base.specs.declared.kind.ParamType.TheVariants.{Scalar, Flat, Str
 use Rattle.krn_base.specs.declared.kind.Kind.{Kind}
 use Rattle.view_places.specs.declared.shape.Array.{Array}
 use Rattle.array_ops.specs.Arrays.{words_of}
-use Rattle.array_ops.specs.Elements.{Bound, Unbound, WordOf, ArrayOf}
-use Rattle.eager_rules.proofs.Each.{Each, Extends, each_get, each_length, each_take, extends_refl, none_some, some_same}
+use Rattle.array_ops.specs.Elements.{Bound, Unbound}
+use Rattle.eager_rules.proofs.Each.{Each, each_get, each_length, each_take, none_some, some_same}
 use Rattle.eager_rules.proofs.Typed.{Row, Holds, HoldAll, LiesIn, OfType, OfName, StateOf, Given, Named, DoneOf}
 use Rattle.eager_rules.proofs.Typed.{gives_nothing}
-use Rattle.eager_rules.proofs.TypedWorks.{WorkOf, not_true, same_all}
-use Rattle.eager_rules.proofs.TypedRuns.{CallsOf, EndOf, MeaningOf, all_bound, block_typed}
+use Rattle.eager_rules.proofs.TypedWorks.{WorkOf, same_all}
+use Rattle.eager_rules.proofs.TypedRuns.{CallsOf, EndOf, all_bound, block_typed}
 use Rattle.eager_rules.specs.Blocks.{End, GoesOn, Returned, Faulted, Stuck}
 use Rattle.eager_rules.specs.Eager.{Calls, block, called, calls_at, done_of, entered}
-use Rattle.eager_rules.specs.Fits.{Fits, IsFilled, IsOfKind, IsViewIn, Takes, AreTaken}
-use Rattle.eager_rules.specs.Kept.{FitsInstance, IsKernel, KeepsBuffers, holding}
+use Rattle.eager_rules.specs.Fits.{IsFilled, Takes, AreTaken}
+use Rattle.eager_rules.specs.Kept.{FitsInstance, IsKernel, KeepsBuffers}
 use Rattle.eager_rules.specs.Outcome.{buffers_of, ended, instance_outcome, outcome_at, outcome_by, outcome_of}
 use Rattle.eager_rules.specs.Sound.{Head, head_of, IsWellTyped, IsTyped}
 use Rattle.eager_rules.specs.State.{State, bound_to}
-use Rattle.eager_rules.specs.Types.{Ty, type_of_param, same_types}
+use Rattle.eager_rules.specs.Types.{Ty, type_of_param}
 use Rattle.eager_rules.specs.declared.call.Arg.{Arg}
 use Rattle.eager_rules.specs.declared.call.Arg.TheVariants as arg
 use Rattle.eager_rules.specs.declared.call.Call.{Call}

@@ -1,10 +1,9 @@
 -- The words that operations give are of the kinds that the types say.
-use Rattle.std.proofs.Common.{arith, ◌≡◌, ◌∙◌, ◌<◌, ap, sym, subst, refl, inl, inr, ℕ, zero, suc, ℤ, pos, negsuc, ◌^◌, ◌-◌}
-use Rattle.std.proofs.Common.{Bool, true, false, List, [], ◌∷◌, map, length, replicate, slice_index_or, Option, Some, None}
-use Rattle.std.proofs.Common.{Result, Ok, Err, fold}
+use Rattle.std.proofs.Common.{◌≡◌, sym, subst, refl, inl, inr, ℤ, pos}
+use Rattle.std.proofs.Common.{Bool, true, false, List, [], ◌∷◌, map, Some, None}
+use Rattle.std.proofs.Common.{Result, Ok, Err}
 use Rattle.std.proofs.lemmas.Int.{fold-int_min_reached, fold-int_max_reached}
-use Rattle.std.proofs.lemmas.List.Elements.{All-nil, All-cons, All-head, All-tail, All-replicate, All-map}
-use Rattle.std.specs.Int.{int_min, int_max, int_bit_and, int_bit_or, int_bit_xor, w64}
+use Rattle.std.proofs.lemmas.List.Elements.{All-nil, All-cons, All-head, All-tail}
 use Rattle.std.specs.Prelude.{◌⊎◌}
 use Rattle.std.specs.List.{All, Contains, zip}
 use Rattle.krn_base.specs.Numbers.{element_result, unary_result, truth, is_zero}
@@ -16,7 +15,7 @@ use Rattle.krn_base.specs.declared.operation.BinOp.TheVariants as bin
 use Rattle.krn_base.specs.declared.operation.Join.TheVariants as joins
 use Rattle.krn_base.specs.declared.operation.UnOp.{UnOp}
 use Rattle.krn_base.specs.declared.operation.UnOp.TheVariants as un
-use Rattle.array_ops.specs.Elements.{choose, reduced, joined, unless_empty}
+use Rattle.array_ops.specs.Elements.{choose, reduced, joined}
 use Rattle.array_ops.specs.declared.operation.RedOp.{RedOp}
 use Rattle.array_ops.specs.declared.operation.RedOp.TheVariants as red
 use Rattle.eager_rules.proofs.Each.{some_same, none_some}

@@ -1,55 +1,50 @@
 -- Each statement of a sound program is ready, and each of its calls ends.
 use Rattle.std.proofs.Common.{arith, ◌≡◌, ◌∙◌, ◌+◌, ◌<◌, ◌≤◌, ap, sym, subst, refl, ℕ, zero, suc, ℤ, Bool, true, false}
-use Rattle.std.proofs.Common.{◌&&◌, List, [], ◌∷◌, ◌++◌, map, length, replicate, slice_index_or, slice_get, take}
+use Rattle.std.proofs.Common.{◌&&◌, List, [], ◌∷◌, ◌++◌, map, length, replicate, slice_get, take}
 use Rattle.std.proofs.Common.{Option, Some, None, Result, Ok, Err}
 use Rattle.std.proofs.lemmas.Grind.{flat_map-append}
-use Rattle.std.proofs.lemmas.List.{length-map}
 use Rattle.std.proofs.lemmas.List.Elements.{recursion_from_All}
 use Rattle.std.proofs.lemmas.Option.{slice_get-map, slice_get_within}
 use Rattle.std.specs.Prelude.{option_map, slice_set}
-use Rattle.std.specs.List.{All, AllByRecursion, flat_map, list_all, range_with_len}
+use Rattle.std.specs.List.{AllByRecursion, flat_map, list_all, range_with_len}
 use Rattle.krn_base.specs.declared.fault.Fault.{Fault}
 use Rattle.krn_base.specs.declared.kind.Kind.TheVariants.{Int64}
 use Rattle.krn_base.specs.declared.kind.ParamType.{ParamType}
-use Rattle.krn_base.specs.declared.kind.ParamType.TheVariants.{Scalar, Flat, Strided}
 use Rattle.krn_base.specs.declared.place.Loc.{Loc}
 use Rattle.view_places.specs.declared.shape.Array.{Array}
 use Rattle.view_places.specs.Arrays.{element_count}
 use Rattle.array_ops.specs.Arrays.{ArrayRef, elements_of, with_word, with_words, word_at}
-use Rattle.array_ops.specs.Elements.{Bound, Unbound, WordOf, ArrayOf, filled, fresh_shape, map_elements}
+use Rattle.array_ops.specs.Elements.{Bound, Unbound, WordOf, filled, fresh_shape, map_elements}
 use Rattle.array_ops.specs.Elements.{operand_elements, reduced, shape_of, stored_shape}
 use Rattle.array_ops.specs.Subscripts.{and_then, element_place, picked}
 use Rattle.eager_rules.proofs.Chains.{every_by, every_left, every_right, rank, rank_falls, rank_low}
 use Rattle.eager_rules.proofs.Each.{Each, none_some, some_same}
 use Rattle.eager_rules.proofs.KeptBuffers.{at_number}
 use Rattle.eager_rules.proofs.ListTests.{and_left, and_right}
-use Rattle.eager_rules.proofs.Ready.{OfTest, Tests, Grows, Covers, FineEnd, SafeBy, GoodDone, bound_tests, step_safe}
+use Rattle.eager_rules.proofs.Ready.{OfTest, Tests, Covers, FineEnd, SafeBy, GoodDone, bound_tests, step_safe}
 use Rattle.eager_rules.proofs.Ready.{then_safe, none_safe, if_safe, for_safe, return_safe, right_false, values_bound}
 use Rattle.eager_rules.proofs.Trees.{Good, by_layers, fused}
 use Rattle.eager_rules.proofs.Typed.{Named}
 use Rattle.eager_rules.proofs.TypedRuns.{add_given, names_given, some_given}
 use Rattle.eager_rules.proofs.TypedWorks.{not_true, same_all}
-use Rattle.eager_rules.specs.Blocks.{Meaning, End, GoesOn, Returned, Faulted, Stuck, in_order, loop_over, choice}
-use Rattle.eager_rules.specs.Eager.{Calls, block, called, calls_at, done_of, entered, meaning, set_variable, statement}
-use Rattle.eager_rules.specs.Eager.{bind_all, step, work_of}
-use Rattle.eager_rules.specs.Fits.{AreTaken, Fits, Takes}
-use Rattle.eager_rules.specs.Kept.{FitsInstance}
+use Rattle.eager_rules.specs.Blocks.{Meaning, End, GoesOn, Returned, Faulted, Stuck, in_order}
+use Rattle.eager_rules.specs.Eager.{Calls, block, called, calls_at, done_of, entered, meaning, statement}
+use Rattle.eager_rules.specs.Fits.{AreTaken}
 use Rattle.eager_rules.specs.Laws.{IsNeverStuck, run_of}
 use Rattle.eager_rules.specs.Outcome.{buffers_of}
-use Rattle.eager_rules.specs.Sound.{Bindings, Head, HasNoCycle, IsSound, IsTyped, IsWellTyped, Shape, all_fit, at_start}
-use Rattle.eager_rules.specs.Sound.{block_shape, both, both_shapes, call_fits, fits, fits_step, given_types, has_type}
+use Rattle.eager_rules.specs.Sound.{Bindings, Head, IsSound, IsWellTyped, Shape, all_fit, at_start}
+use Rattle.eager_rules.specs.Sound.{block_shape, call_fits, fits, fits_step, given_types, has_type}
 use Rattle.eager_rules.specs.Sound.{all_numbers, reduction_fits, head_of, in_walk, is_assigned, named_types, put_all}
-use Rattle.eager_rules.specs.Sound.{returns_values, shape_of_body, shape_step, simple, takes_values, walk, walk_step}
+use Rattle.eager_rules.specs.Sound.{returns_values, shape_of_body, shape_step, takes_values, walk, walk_step}
 use Rattle.eager_rules.specs.State.{State, bound_to, is_bound, operand}
-use Rattle.eager_rules.specs.Statements.{binds_of, calls_of, calls_step, reads_of}
+use Rattle.eager_rules.specs.Statements.{calls_of, calls_step}
 use Rattle.eager_rules.specs.Types.{Ty, is_truth, same_types, type_of, type_of_param, types_of, word_type}
-use Rattle.eager_rules.specs.Works.{Done, Made, Failed, Blocked, Work, array_in, as_array, as_word, changed, made_new}
+use Rattle.eager_rules.specs.Works.{Done, Made, Failed, Blocked, array_in, as_array, as_word, changed, made_new}
 use Rattle.eager_rules.specs.Works.{extent_work, flip_work, move_work, range_values, sub_operands, subscripts_of, valued, word_of, word_result}
 use Rattle.eager_rules.specs.Works.{fresh_work, get_work, map_work, pick_work, put_work, reduce_work, store_work}
 use Rattle.eager_rules.specs.Works.{word_work}
 use Rattle.eager_rules.specs.declared.call.Arg.{Arg}
 use Rattle.eager_rules.specs.declared.call.Arg.TheVariants as arg
-use Rattle.eager_rules.specs.declared.call.Call.{Call}
 use Rattle.eager_rules.specs.declared.program.Core.{Core}
 use Rattle.eager_rules.specs.declared.program.Core.TheOpen as c
 use Rattle.eager_rules.specs.declared.program.Core.TheFolds.{fold-Core, map-Core, fold-roll-Core}

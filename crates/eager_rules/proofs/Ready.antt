@@ -1,31 +1,24 @@
 -- A sound program never reads what is unbound. A walk's list of tests says which names are bound for sure; each
 -- statement is ready where the walk goes on, and each work can be done.
-use Rattle.std.proofs.Common.{arith, ◌≡◌, ◌∙◌, ◌+◌, ◌<◌, ◌≤◌, ap, sym, subst, refl, ℕ, zero, suc, ℤ, pos, negsuc}
-use Rattle.std.proofs.Common.{Bool, true, false, ◌&&◌, List, [], ◌∷◌, ◌++◌, map, length, replicate, slice_index_or}
-use Rattle.std.proofs.Common.{slice_get, take, Option, Some, None, Result, Ok, Err}
-use Rattle.std.proofs.lemmas.List.{length-map}
-use Rattle.std.proofs.lemmas.List.Elements.{recursion_from_All}
-use Rattle.std.proofs.lemmas.Option.{slice_get-map, slice_get_within}
-use Rattle.std.specs.Prelude.{nat_lt, option_map, slice_set}
-use Rattle.std.specs.List.{All, AllByRecursion, flat_map, list_all, range_with_len, zip}
-use Rattle.krn_base.specs.declared.fault.Fault.{Fault}
+use Rattle.std.proofs.Common.{◌≡◌, ◌∙◌, ap, sym, subst, refl, ℕ, zero, suc, ℤ, pos, negsuc}
+use Rattle.std.proofs.Common.{Bool, true, false, ◌&&◌, List, [], ◌∷◌, map, length, replicate}
+use Rattle.std.proofs.Common.{slice_get, Option, Some, None}
+use Rattle.std.specs.Prelude.{nat_lt, slice_set}
+use Rattle.std.specs.List.{list_all}
 use Rattle.krn_base.specs.declared.place.Loc.{Loc}
-use Rattle.array_ops.specs.Arrays.{ArrayRef, word_at}
-use Rattle.array_ops.specs.Elements.{Bound, Unbound, WordOf, ArrayOf}
-use Rattle.array_ops.specs.Subscripts.{and_then}
+use Rattle.array_ops.specs.Elements.{Bound, Unbound, WordOf}
 use Rattle.eager_rules.proofs.Each.{Each, each_get, each_length, none_some, some_same}
 use Rattle.eager_rules.proofs.ListTests.{and_left, and_right}
-use Rattle.eager_rules.proofs.Typed.{Named, Reads}
-use Rattle.eager_rules.proofs.TypedRuns.{add_given, names_given, some_given}
-use Rattle.eager_rules.proofs.TypedWorks.{not_true, same_all}
-use Rattle.eager_rules.specs.Blocks.{Meaning, End, GoesOn, Returned, Faulted, Stuck, then_do, in_order, for_each}
+use Rattle.eager_rules.proofs.TypedRuns.{add_given, some_given}
+use Rattle.eager_rules.proofs.TypedWorks.{not_true}
+use Rattle.eager_rules.specs.Blocks.{Meaning, End, GoesOn, Returned, Faulted, Stuck, then_do, for_each}
 use Rattle.eager_rules.specs.Blocks.{loop_over, choice}
-use Rattle.eager_rules.specs.Eager.{Calls, bind_all, finish, ready, set_variable, step, where_ready}
-use Rattle.eager_rules.specs.Sound.{Bindings, bound_in, operand_bound, tested, put_all, meet, both, next, stay, in_walk}
-use Rattle.eager_rules.specs.Sound.{names_fit, named_types, takes_values}
+use Rattle.eager_rules.specs.Eager.{bind_all, finish, ready, set_variable, step, where_ready}
+use Rattle.eager_rules.specs.Sound.{Bindings, bound_in, operand_bound, tested, put_all, meet, both, next, stay}
+use Rattle.eager_rules.specs.Sound.{names_fit}
 use Rattle.eager_rules.specs.State.{State, bind, bound_of, is_bound, operand, with_buffers}
-use Rattle.eager_rules.specs.Types.{Ty, add_type, same_types, type_of, types_of}
-use Rattle.eager_rules.specs.Works.{Done, Made, Failed, Blocked, Work, as_array, as_word, changed, made_new, valued}
+use Rattle.eager_rules.specs.Types.{Ty, type_of, types_of}
+use Rattle.eager_rules.specs.Works.{Done, Made, Failed, Blocked, Work}
 use Rattle.eager_rules.specs.declared.program.Oper.{Oper}
 use Rattle.eager_rules.specs.declared.program.Oper.TheVariants as oper
 

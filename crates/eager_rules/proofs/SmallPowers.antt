@@ -1,5 +1,5 @@
 -- A well-typed program has no exponent above 62.
-use Rattle.std.proofs.Common.{arith, ◌≡◌, ◌∙◌, ◌<◌, ap, sym, subst, refl, ℕ, zero, suc, Bool, true, false, ◌&&◌, nat_le}
+use Rattle.std.proofs.Common.{arith, ◌≡◌, ◌∙◌, ap, sym, ℕ, zero, suc, Bool, true, false, ◌&&◌, nat_le}
 use Rattle.std.proofs.Common.{List, [], ◌∷◌, map, if◌then◌else◌, Option, Some, None}
 use Rattle.std.specs.List.{All, list_all}
 use Rattle.krn_base.specs.declared.kind.Kind.{Kind}
@@ -14,7 +14,7 @@ use Rattle.eager_rules.specs.Small.{is_small_power, is_small_word, is_small_map,
 use Rattle.eager_rules.specs.Small.{all_true, bodies_small}
 use Rattle.eager_rules.specs.Sound.{Head, has_type, given_types, all_numbers, reduction_fits, fits_step, fits, all_fit}
 use Rattle.eager_rules.specs.Sound.{IsWellTyped}
-use Rattle.eager_rules.specs.Types.{Ty, only, un_kind, with_rank, with_array_rank, word_type, map_type, type_of}
+use Rattle.eager_rules.specs.Types.{Ty, only, un_kind, with_rank, word_type, map_type, type_of}
 use Rattle.eager_rules.specs.Types.{types_of, is_truth}
 use Rattle.eager_rules.specs.declared.program.Core.{Core}
 use Rattle.eager_rules.specs.declared.program.Core.TheOpen as c

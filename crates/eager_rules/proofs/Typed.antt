@@ -1,35 +1,25 @@
 -- A run of a well-typed program keeps the kinds of what names stand for and of the words of buffers, and how many
 -- words each buffer has. A row is a buffer's kind and its number of words.
-use Rattle.std.proofs.Common.{arith, ◌≡◌, ◌∙◌, ◌<◌, ap, sym, subst, refl, inl, inr, ℕ, zero, suc, ℤ, pos, Bool, true}
-use Rattle.std.proofs.Common.{false, ◌&&◌, List, [], ◌∷◌, ◌++◌, map, length, replicate, slice_index_or, slice_get, Option}
-use Rattle.std.proofs.Common.{Some, None, Result, Ok, Err, not, ◌+◌}
-use Rattle.std.proofs.lemmas.List.Elements.{All-nil, All-head, All-replicate, All-map, All-set}
-use Rattle.std.proofs.lemmas.List.{length-set, get_or_past}
-use Rattle.std.specs.Prelude.{◌⊎◌, slice_set, ◌==◌}
-use Rattle.std.specs.List.{All, list_all, zip}
-use Rattle.krn_base.specs.Numbers.{scalar_result, unary_result, unless_fault, fault_of, element_result}
+use Rattle.std.proofs.Common.{arith, ◌≡◌, ◌∙◌, refl, ℕ, zero, suc, ℤ, pos}
+use Rattle.std.proofs.Common.{List, [], ◌∷◌, ◌++◌, length, slice_index_or, slice_get}
+use Rattle.std.proofs.Common.{Some, Result, Ok, Err}
+use Rattle.std.proofs.lemmas.List.Elements.{All-head, All-replicate, All-map, All-set}
+use Rattle.std.proofs.lemmas.List.{length-set}
+use Rattle.std.specs.Prelude.{slice_set}
+use Rattle.std.specs.List.{All}
 use Rattle.krn_base.specs.declared.fault.Fault.{Fault}
 use Rattle.krn_base.specs.declared.kind.Kind.{Kind}
-use Rattle.krn_base.specs.declared.kind.Kind.TheVariants.{Int64, Bool as Boolean}
 use Rattle.krn_base.specs.declared.place.Loc.{Loc}
-use Rattle.array_ops.specs.Arrays.{ArrayRef, words_of, word_at, with_word, with_words, elements_at, elements_of}
-use Rattle.array_ops.specs.Elements.{Bound, Unbound, WordOf, ArrayOf, operand_elements, map_elements, mapped, filled}
-use Rattle.array_ops.specs.Elements.{choose}
-use Rattle.array_ops.specs.declared.operation.Fill.{Fill}
-use Rattle.array_ops.specs.declared.operation.Fill.TheVariants as fills
-use Rattle.array_ops.specs.declared.operation.MapOp.{MapOp}
-use Rattle.array_ops.specs.declared.operation.MapOp.TheVariants as map_op
-use Rattle.eager_rules.proofs.Each.{Each, Extends, each_get, each_set, each_push, each_last, each_more}
-use Rattle.eager_rules.proofs.Each.{extends_refl, extends_trans, extends_push, extends_get, some_same, none_some}
-use Rattle.eager_rules.proofs.KindLaws.{IsResult, zero_of, one_of, all_one, all_two, bin_word, un_word, choice_word}
-use Rattle.eager_rules.proofs.KindLaws.{reduced_word}
+use Rattle.array_ops.specs.Arrays.{words_of, word_at, with_word, with_words, elements_at}
+use Rattle.array_ops.specs.Elements.{Bound, Unbound, WordOf, ArrayOf, operand_elements}
+use Rattle.eager_rules.proofs.Each.{Each, Extends, each_get, each_set, each_push, each_last}
+use Rattle.eager_rules.proofs.Each.{extends_refl, extends_push, extends_get}
+use Rattle.eager_rules.proofs.KindLaws.{IsResult, zero_of}
 use Rattle.eager_rules.specs.Fits.{IsOfKind}
-use Rattle.eager_rules.specs.State.{State, operand, bind}
+use Rattle.eager_rules.specs.State.{State}
 use Rattle.eager_rules.specs.Types.{Ty, type_of}
 use Rattle.eager_rules.specs.Works.{Done, Made, Failed, Blocked, word_of, valued, changed, made_new, as_word}
-use Rattle.eager_rules.specs.Eager.{bind_all}
 use Rattle.eager_rules.specs.declared.program.Oper.{Oper}
-use Rattle.eager_rules.specs.declared.program.Oper.TheVariants as oper
 
 abbrev pub Row : Type 0
 Row = Kind × ℕ

@@ -1,15 +1,13 @@
 -- Statements, blocks, loops and calls of a well-typed program keep what names and buffers hold.
-use Rattle.std.proofs.Common.{arith, ◌≡◌, ◌∙◌, ◌+◌, ap, sym, subst, refl, ℕ, zero, suc, ℤ, Bool, true, false, ◌&&◌}
-use Rattle.std.proofs.Common.{List, [], ◌∷◌, map, length, replicate, slice_index_or, slice_get, Option, Some, None, not}
-use Rattle.std.proofs.Common.{take, pos, negsuc}
-use Rattle.std.proofs.lemmas.Option.{slice_get-map}
-use Rattle.std.specs.Prelude.{option_map, nat_le, nat_lt, ◌==◌, ◌-◌, if◌then◌else◌}
-use Rattle.std.specs.List.{flat_map, list_all, range_with_len}
-use Rattle.krn_base.specs.declared.kind.Kind.{Kind}
+use Rattle.std.proofs.Common.{◌≡◌, ◌∙◌, ap, sym, subst, refl, ℕ, zero, suc, ℤ, Bool, true, false, ◌&&◌}
+use Rattle.std.proofs.Common.{List, [], ◌∷◌, map, length, slice_index_or, slice_get, Option, Some, None}
+use Rattle.std.proofs.Common.{pos, negsuc}
+use Rattle.std.specs.Prelude.{nat_le, nat_lt, ◌==◌, if◌then◌else◌}
+use Rattle.std.specs.List.{flat_map, list_all}
 use Rattle.krn_base.specs.declared.kind.Kind.TheVariants.{Int64, Bool as Boolean}
 use Rattle.krn_base.specs.declared.place.Loc.{Loc}
 use Rattle.array_ops.specs.Elements.{Bound, Unbound, WordOf, ArrayOf}
-use Rattle.eager_rules.proofs.Each.{Each, Extends, each_get, each_set, each_more, extends_refl, extends_trans}
+use Rattle.eager_rules.proofs.Each.{Extends, each_get, each_set, each_more, extends_refl, extends_trans}
 use Rattle.eager_rules.proofs.Each.{none_some, some_same}
 use Rattle.eager_rules.proofs.KindLaws.{truth_of}
 use Rattle.eager_rules.proofs.ListTests.{and_left, and_right}
@@ -21,21 +19,19 @@ use Rattle.eager_rules.proofs.TypedWorks.{computed, elementwise, joined, stored,
 use Rattle.eager_rules.specs.Blocks.{Meaning, End, GoesOn, Returned, Faulted, Stuck, then_do, in_order, for_each}
 use Rattle.eager_rules.specs.Blocks.{loop_over, choice}
 use Rattle.eager_rules.specs.Eager.{Calls, bind_all, ready, where_ready, finish, step, statement, meaning, block}
-use Rattle.eager_rules.specs.Eager.{entered, done_of, called, calls_at, set_variable}
-use Rattle.eager_rules.specs.Sound.{Head, head_of, has_type, one_type, given_types, array_named, keep_array, all_numbers}
-use Rattle.eager_rules.specs.Sound.{named_types, takes_values, call_fits, fits_step, fits, all_fit, IsWellTyped}
+use Rattle.eager_rules.specs.Eager.{set_variable}
+use Rattle.eager_rules.specs.Sound.{Head, has_type, one_type, given_types, array_named, keep_array, all_numbers}
+use Rattle.eager_rules.specs.Sound.{named_types, takes_values, call_fits, fits_step, fits, all_fit}
 use Rattle.eager_rules.specs.Sound.{reduction_fits}
 use Rattle.eager_rules.specs.State.{State, operand, is_bound, bind, with_buffers, truth_word}
-use Rattle.eager_rules.specs.Types.{Ty, is_array, type_of, types_of, add_type, type_of_param, same_type, same_types}
+use Rattle.eager_rules.specs.Types.{Ty, is_array, type_of, types_of, add_type, same_types}
 use Rattle.eager_rules.specs.Types.{word_type, map_type, reduce_type, pick_type, put_fits, store_fits, may_store, is_truth}
-use Rattle.eager_rules.specs.Types.{fresh_fits, is_scalar, removed, sub_fits, with_array_rank}
+use Rattle.eager_rules.specs.Types.{fresh_fits, is_scalar, sub_fits}
 use Rattle.eager_rules.specs.Works.{Done, Made, Failed, Blocked, Work, word_of, range_values, sub_operands}
 use Rattle.eager_rules.specs.declared.program.Core.{Core}
 use Rattle.eager_rules.specs.declared.program.Core.TheOpen as c
 use Rattle.eager_rules.specs.declared.program.Core.TheFolds.{map-Core, fold-roll-Core}
 use Rattle.eager_rules.specs.declared.program.Core.TheViews.{roll-Core}
-use Rattle.eager_rules.specs.declared.program.CoreSub.{CoreSub}
-use Rattle.eager_rules.specs.declared.program.Instance.{Instance}
 use Rattle.eager_rules.specs.declared.program.Oper.{Oper}
 use Rattle.eager_rules.specs.declared.program.Oper.TheVariants as oper
 

@@ -1,6 +1,6 @@
 -- The work of each statement takes operands of its types and gives values of its types.
-use Rattle.std.proofs.Common.{arith, ◌≡◌, ◌∙◌, ap, sym, subst, refl, inl, inr, ℕ, zero, suc, ℤ, pos, Bool, true, false}
-use Rattle.std.proofs.Common.{◌&&◌, List, [], ◌∷◌, map, Option, Some, None, Result, Ok, Err, not, max}
+use Rattle.std.proofs.Common.{◌≡◌, ◌∙◌, ap, sym, subst, refl, ℕ, zero, suc, ℤ, pos, Bool, true, false}
+use Rattle.std.proofs.Common.{List, [], ◌∷◌, map, Option, Some, None, Result, Ok, Err, not, max}
 use Rattle.std.proofs.lemmas.Bool.{eqb-true}
 use Rattle.std.proofs.lemmas.List.Elements.{All-nil, All-replicate}
 use Rattle.std.specs.Prelude.{◌==◌, if◌then◌else◌}
@@ -14,7 +14,7 @@ use Rattle.view_places.specs.Arrays.{element_count}
 use Rattle.array_ops.specs.Arrays.{ArrayRef, elements_of, with_word, with_words, word_at}
 use Rattle.array_ops.specs.Elements.{Bound, Unbound, WordOf, ArrayOf, choose, filled, map_elements, operand_elements}
 use Rattle.array_ops.specs.Elements.{fresh_shape, reduced, shape_of, stored_shape}
-use Rattle.array_ops.specs.Subscripts.{and_then, cut_to, element_place, flipped, indexed, picked_from, picked}
+use Rattle.array_ops.specs.Subscripts.{and_then, cut_to, element_place, indexed, picked_from, picked}
 use Rattle.array_ops.specs.Subscripts.{subscripted, axis_behind}
 use Rattle.array_ops.specs.declared.operation.Fill.{Fill}
 use Rattle.array_ops.specs.declared.operation.Fill.TheVariants as fills
@@ -28,7 +28,7 @@ use Rattle.eager_rules.proofs.KindLaws.{IsResult, zero_of, one_of, all_one, all_
 use Rattle.eager_rules.proofs.KindLaws.{all_pairs, reduced_word}
 use Rattle.eager_rules.proofs.ListTests.{and_left, and_right}
 use Rattle.eager_rules.proofs.Typed.{Row, HoldAll, LiesIn, OfType, Given, DoneOf, words_in, word_in, operand_words}
-use Rattle.eager_rules.proofs.Typed.{scalar_word, held_word, held_words, gives_value, gives_word, gives_change}
+use Rattle.eager_rules.proofs.Typed.{scalar_word, held_word, held_words, gives_word}
 use Rattle.eager_rules.proofs.Typed.{gives_new, gives_nothing}
 use Rattle.eager_rules.specs.Fits.{IsOfKind}
 use Rattle.eager_rules.specs.Types.{Ty, same_kind, same_type, same_types, is_array, bin_kind, un_kind, select_kind}
