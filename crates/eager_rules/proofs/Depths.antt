@@ -1,7 +1,6 @@
 -- A call where the depth isn't used up.
 use Rattle.std.proofs.Common.{arith, ◌≡◌, ◌-◌, ℕ, zero, suc, List, slice_get, ap, refl}
-use Rattle.eager_rules.specs.Eager.{Calls, called, calls_at}
-use Rattle.eager_rules.specs.Works.{Work}
+use Rattle.eager_rules.specs.Eager.{called, calls_at}
 use Rattle.eager_rules.specs.declared.program.Instance.{Instance}
 
 pub calls_below : (instances : List Instance) (depth instance : ℕ) → (depth ≡ 0 → ⊥) →

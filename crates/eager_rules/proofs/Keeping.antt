@@ -1,10 +1,9 @@
 -- Work that leaves each buffer that stood.
-use Rattle.std.proofs.Common.{arith, ◌≡◌, ◌∙◌, ◌<◌, ap, refl, ℕ, ℤ, true, false, List, [], ◌∷◌, length, map, Result}
+use Rattle.std.proofs.Common.{◌≡◌, ◌<◌, refl, ℕ, ℤ, true, false, List, [], ◌∷◌, length, map, Result}
 use Rattle.std.proofs.Common.{Ok, Err}
 use Rattle.std.proofs.lemmas.List.{get_or_append_left}
 use Rattle.krn_base.specs.declared.fault.Fault.{Fault}
 use Rattle.krn_base.specs.declared.place.Loc.{Loc}
-use Rattle.krn_base.specs.Numbers.{unary_result}
 use Rattle.array_ops.specs.Arrays.{words_of, word_at, elements_of}
 use Rattle.array_ops.specs.Elements.{Bound, WordOf, reduced, filled, fresh_shape, shape_of, map_elements}
 use Rattle.array_ops.specs.Subscripts.{and_then, element_place, picked}
@@ -13,7 +12,6 @@ use Rattle.eager_rules.specs.Laws.{LeavesBuffers, buffers_after, may_change}
 use Rattle.eager_rules.specs.Works.{valued, made_new, word_result, as_word, as_array, word_of, array_in, subscripts_of}
 use Rattle.eager_rules.specs.declared.program.Core.{Core}
 use Rattle.eager_rules.specs.declared.program.Core.TheOpen as c
-use Rattle.eager_rules.specs.declared.program.WordOp.{WordOp}
 use Rattle.eager_rules.specs.declared.program.WordOp.TheVariants as word_op
 use Rattle.view_places.specs.Arrays.{element_count}
 

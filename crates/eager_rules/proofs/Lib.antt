@@ -6,3 +6,13 @@ pub mod Zips
 pub mod SmallPowers
 pub mod Stores
 pub mod Keeping
+pub mod Each
+pub mod KindLaws
+pub mod Trees
+pub mod Typed
+pub mod TypedWorks
+pub mod TypedRuns
+pub mod KeptBuffers
+pub mod Chains
+pub mod Ready
+pub mod NeverStuck

@@ -1,7 +1,7 @@
 -- Tests that hold of a whole list hold of each of its items.
 use Rattle.std.proofs.Common.{◌≡◌, ◌<◌, ℕ, zero, suc, Bool, true, false, ◌&&◌, List, [], ◌∷◌, ◌++◌, ◌+◌, map, length}
-use Rattle.std.proofs.Common.{slice_index_or, Some, None}
-use Rattle.std.proofs.Common.{slice_get, arith, ◌∙◌, sym, ap, subst}
+use Rattle.std.proofs.Common.{slice_index_or, Some}
+use Rattle.std.proofs.Common.{slice_get, arith, ◌∙◌, ap, subst}
 use Rattle.std.proofs.lemmas.Option.{get_or_from_slice_get, slice_get_within}
 use Rattle.std.specs.List.{list_all, range_with_len}
 

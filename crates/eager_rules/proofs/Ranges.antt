@@ -4,8 +4,8 @@ use Rattle.std.proofs.lemmas.Float.{T_from_true}
 use Rattle.std.specs.Int.Signed.{lt_z_yes, lt_z_no}
 use Rattle.std.specs.Prelude.{ltb}
 use Rattle.std.proofs.lemmas.Bool.Decides.{nat_tests}
-use Rattle.std.proofs.Common.{subst, arith, pos, negsuc, not, ◌<ℤ◌, ◌≤ℤ◌, int_lt, FitsSigned, w64, ◌≡◌, ◌-◌, ◌<◌, ◌≤◌}
-use Rattle.std.proofs.Common.{ℕ, zero, suc, ℤ, ◌+ℤ◌, List, [], ◌∷◌, Bool, true, false, cond, ap, ◌∙◌, sym, refl}
+use Rattle.std.proofs.Common.{subst, arith, pos, negsuc, not, ◌<ℤ◌, ◌≤ℤ◌, int_lt, FitsSigned, w64, ◌≡◌, ◌-◌, ◌<◌}
+use Rattle.std.proofs.Common.{ℕ, zero, suc, ℤ, ◌+ℤ◌, [], ◌∷◌, Bool, true, false, cond, ap, ◌∙◌, refl}
 use Rattle.view_places.specs.Slice.{is_before}
 use Rattle.eager_rules.specs.Works.{numbers_from}
 

@@ -1,5 +1,5 @@
 -- A well-typed program has no exponent above 62.
-use Rattle.std.proofs.Common.{arith, ◌≡◌, ◌∙◌, ◌<◌, ap, sym, subst, refl, ℕ, zero, suc, Bool, true, false, ◌&&◌, nat_le}
+use Rattle.std.proofs.Common.{arith, ◌≡◌, ◌∙◌, ap, sym, ℕ, zero, suc, Bool, true, false, ◌&&◌, nat_le}
 use Rattle.std.proofs.Common.{List, [], ◌∷◌, map, if◌then◌else◌, Option, Some, None}
 use Rattle.std.specs.List.{All, list_all}
 use Rattle.krn_base.specs.declared.kind.Kind.{Kind}
@@ -9,15 +9,16 @@ use Rattle.krn_base.specs.declared.operation.UnOp.TheVariants as un
 use Rattle.array_ops.specs.declared.operation.MapOp.{MapOp}
 use Rattle.array_ops.specs.declared.operation.MapOp.TheVariants as map_op
 use Rattle.eager_rules.proofs.ListTests.{and_left, and_right}
+use Rattle.eager_rules.proofs.Trees.{Good as Proved, by_layers, fused}
 use Rattle.eager_rules.specs.Small.{is_small_power, is_small_word, is_small_map, small_step, is_small, all_small}
 use Rattle.eager_rules.specs.Small.{all_true, bodies_small}
 use Rattle.eager_rules.specs.Sound.{Head, has_type, given_types, all_numbers, reduction_fits, fits_step, fits, all_fit}
 use Rattle.eager_rules.specs.Sound.{IsWellTyped}
-use Rattle.eager_rules.specs.Types.{Ty, only, un_kind, with_rank, with_array_rank, word_type, map_type, type_of}
+use Rattle.eager_rules.specs.Types.{Ty, only, un_kind, with_rank, word_type, map_type, type_of}
 use Rattle.eager_rules.specs.Types.{types_of, is_truth}
 use Rattle.eager_rules.specs.declared.program.Core.{Core}
 use Rattle.eager_rules.specs.declared.program.Core.TheOpen as c
-use Rattle.eager_rules.specs.declared.program.Core.TheFolds.{map-Core, fold-roll-Core, ind-Core}
+use Rattle.eager_rules.specs.declared.program.Core.TheFolds.{map-Core, fold-roll-Core}
 use Rattle.eager_rules.specs.declared.program.Core.TheViews.{roll-Core}
 use Rattle.eager_rules.specs.declared.program.Instance.{Instance}
 use Rattle.eager_rules.specs.declared.program.WordOp.{WordOp}
@@ -64,7 +65,7 @@ abbrev Done : Core → Type 0
 Done x = (heads : List Head) (rets names : List Ty) → fits heads rets names x ≡ true → is_small x ≡ true
 
 abbrev Good : Type 0
-Good = (x : Core) × Done x
+Good = Proved Done
 
 each : (heads : List Head) (rets names : List Ty) (gs : List Good) →
     list_all (λ fit. fit) (map (λ g. fits heads rets names g.0) gs) ≡ true →
@@ -96,45 +97,19 @@ step heads rets names (c.For var lo hi by at omp body) h =
     (list_all (λ fit. fit) (map (λ (g : Good). fits heads rets names g.0) body)) h)
 step heads rets names _ h = λ i. true
 
-fused_list : (A : Type 0) (h : Core → A) (gs : List Good) →
-    map (λ (g : Good). h g.0) gs ≡ map h (map (λ (g : Good). g.0) gs)
-fused_list A h [] = λ i. []
-fused_list A h (g ∷ gs) = ap (λ (xs : List A). h g.0 ∷ xs) (fused_list A h gs)
-
-fused : (A : Type 0) (h : Core → A) (y : c.Core-F Good) →
-    map-Core Good A (λ g. h g.0) y ≡ map-Core Core A h (map-Core Good Core (λ g. g.0) y)
-fused A h (c.If cond part other) =
-    ap (λ (xs : List A). c.If cond xs (map (λ (g : Good). h g.0) other)) (fused_list A h part) ∙
-    ap (λ (xs : List A). c.If cond (map h (map (λ (g : Good). g.0) part)) xs) (fused_list A h other)
-fused A h (c.For var lo hi by at omp body) =
-    ap (λ (xs : List A). c.For var lo hi by at omp xs) (fused_list A h body)
-fused A h (c.Word to op args at) = refl
-fused A h (c.Extent to of axis) = refl
-fused A h (c.Get to of index at) = refl
-fused A h (c.Put of index value at) = refl
-fused A h (c.Pick to of subs at) = refl
-fused A h (c.Flip to of) = refl
-fused A h (c.Alias to of) = refl
-fused A h (c.Fresh to dims fill at) = refl
-fused A h (c.Map to op args at) = refl
-fused A h (c.Reduce to op of at) = refl
-fused A h (c.Store of value at) = refl
-fused A h (c.Call to instance args) = refl
-fused A h (c.Return values) = refl
-
 layer : (y : c.Core-F Good) → Done (roll-Core (map-Core Good Core (λ g. g.0) y))
 layer y heads rets names h =
     let x : c.Core-F Core = map-Core Good Core (λ g. g.0) y in
     let same_fits : fits_step heads rets names (map-Core Good Bool (λ g. fits heads rets names g.0) y) ≡
     fits heads rets names (roll-Core x) =
-    ap (fits_step heads rets names) (fused Bool (fits heads rets names) y) ∙
+    ap (fits_step heads rets names) (fused Done Bool (fits heads rets names) y) ∙
     sym (fold-roll-Core Bool (fits_step heads rets names) x) in
     let same_small : small_step (map-Core Good Bool (λ g. is_small g.0) y) ≡ is_small (roll-Core x) =
-    ap small_step (fused Bool is_small y) ∙ sym (fold-roll-Core Bool small_step x) in
+    ap small_step (fused Done Bool is_small y) ∙ sym (fold-roll-Core Bool small_step x) in
     sym same_small ∙ step heads rets names y (same_fits ∙ h)
 
 core_small : (x : Core) → Done x
-core_small = ind-Core Done (λ x y is. subst (λ (z : c.Core-F Core). Done (roll-Core z)) is (layer y))
+core_small = by_layers Done layer
 
 body_small : (heads : List Head) (rets names : List Ty) (body : List Core) →
     all_fit heads rets names body ≡ true → all_small body ≡ true

@@ -1,12 +1,12 @@
 -- Words that are stored at places, and read again.
-use Rattle.std.proofs.Common.{arith, ◌≡◌, ◌∙◌, ◌<◌, inl, inr, ap, sym, subst, refl, ℕ, zero, suc, ℤ, pos}
+use Rattle.std.proofs.Common.{arith, ◌≡◌, ◌∙◌, ◌<◌, inl, inr, ap, sym, subst, refl, ℕ, suc, ℤ, pos}
 use Rattle.std.proofs.Common.{List, [], ◌∷◌, length, slice_index_or}
 use Rattle.std.specs.Prelude.{slice_index}
 use Rattle.std.proofs.lemmas.Bool.Decides.{eqb_tells}
 use Rattle.std.proofs.lemmas.List.{get_or-set_same, get_or-set_other, length-set}
 use Rattle.std.specs.Prelude.{slice_set}
 use Rattle.array_ops.specs.Arrays.{elements_at, with_word, with_words, word_at, words_of}
-use Rattle.eager_rules.specs.Laws.{Misses, ReadsWhatWasStored, KeepsOthers}
+use Rattle.eager_rules.specs.Laws.{ReadsWhatWasStored, KeepsOthers}
 
 module _ (buffers : List (List ℤ)) (buffer place : ℕ) (word : ℤ) (there : buffer < length buffers) where
   new_words : words_of (with_word buffers buffer place word) buffer ≡ slice_set (words_of buffers buffer) place word

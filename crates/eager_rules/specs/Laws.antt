@@ -1,9 +1,16 @@
 -- Laws of stores, reads and operations, in NumPy's own words.
-use Rattle.std.specs.Prelude.{◌≡◌, ℕ, ◌<◌, ℤ, Bool, true, false, List, length, slice_index}
+use Rattle.std.specs.Prelude.{◌≡◌, ℕ, ◌<◌, ◌≤◌, ℤ, Bool, true, false, List, length, map, slice_index, slice_get, Some}
 use Rattle.array_ops.specs.Arrays.{elements_at, with_words, word_at, words_of}
 use Rattle.array_ops.specs.Elements.{Bound}
-use Rattle.eager_rules.specs.Eager.{Calls, work_of}
+use Rattle.eager_rules.specs.Blocks.{End, Stuck}
+use Rattle.eager_rules.specs.Eager.{Calls, block, calls_at, entered, work_of}
+use Rattle.eager_rules.specs.Kept.{FitsInstance}
+use Rattle.eager_rules.specs.Outcome.{buffers_of, instance_outcome}
+use Rattle.eager_rules.specs.State.{State, bound_to}
 use Rattle.eager_rules.specs.Works.{Done, Made, Failed, Blocked}
+use Rattle.eager_rules.specs.declared.call.Call.{Call}
+use Rattle.eager_rules.specs.declared.program.Instance.{Instance}
+use Rattle.eager_rules.specs.declared.program.Program.{Program}
 use Rattle.eager_rules.specs.declared.program.Core.{Core}
 use Rattle.eager_rules.specs.declared.program.Core.TheOpen as c
 
@@ -40,3 +47,23 @@ abbrev pub LeavesBuffers : Calls → c.Core-F Core → Type 0
 LeavesBuffers calls y =
     (values : List Bound) (buffers : List (List ℤ)) (number : ℕ) → number < length buffers →
     words_of (buffers_after (work_of calls y values buffers)) number ≡ words_of buffers number
+
+-- Where calls go as deep as there are instances, every greater depth gives the same outcome.
+abbrev pub IsDeepEnough : Program → Type 0
+IsDeepEnough program =
+    (depth : ℕ) → length program.instances ≤ depth → (number : ℕ) (f : Instance) →
+    slice_get program.instances number ≡ Some f → (call : Call) →
+    instance_outcome program.instances depth f call ≡
+    instance_outcome program.instances (length program.instances) f call
+
+-- what evaluating an instance's body on a call comes to
+abbrev pub run_of : Program → Instance → Call → State × End
+run_of program f call =
+    block (calls_at program.instances (length program.instances)) f.body
+    (entered f (map bound_to call.args) (buffers_of call))
+
+-- A call that fits an instance never ends at a statement that reads what is unbound, or whose work can't be done.
+abbrev pub IsNeverStuck : Program → Type 0
+IsNeverStuck program =
+    (number : ℕ) (f : Instance) (call : Call) → slice_get program.instances number ≡ Some f → FitsInstance f call →
+    (run_of program f call).1 ≡ Stuck → ⊥

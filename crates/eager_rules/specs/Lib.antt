@@ -4,6 +4,7 @@ pub mod Fits
 pub mod Laws
 pub mod Outcome
 pub mod Running
+pub mod Kept
 pub mod Small
 pub mod Sound
 pub mod State

@@ -1,7 +1,5 @@
 -- What the evaluator's own values stand for.
 use Rattle.std.specs.Prelude.{ℤ, List, [], ◌∷◌, map, Option, Some, None}
-use Rattle.krn_base.specs.declared.fault.Fault.{Fault}
-use Rattle.krn_base.specs.declared.place.Loc.{Loc}
 use Rattle.array_ops.specs.Elements.{Bound}
 use Rattle.array_ops.specs.Operands.{meaning_of}
 use Rattle.array_ops.specs.declared.operand.Operand.{Operand}

@@ -1,11 +1,10 @@
 -- Exponents of at most 62, which is what powers are asked for.
-use Rattle.std.specs.Prelude.{ℕ, Bool, true, ◌&&◌, nat_le, List, map}
+use Rattle.std.specs.Prelude.{Bool, true, ◌&&◌, nat_le, List, map}
 use Rattle.std.specs.List.{list_all}
 use Rattle.krn_base.specs.declared.operation.UnOp.{UnOp}
 use Rattle.krn_base.specs.declared.operation.UnOp.TheVariants.{Pow}
 use Rattle.array_ops.specs.declared.operation.MapOp.{MapOp}
 use Rattle.array_ops.specs.declared.operation.MapOp.TheVariants as map_op
-use Rattle.eager_rules.specs.Statements.{blocks_of}
 use Rattle.eager_rules.specs.declared.program.Core.{Core}
 use Rattle.eager_rules.specs.declared.program.Core.TheOpen as c
 use Rattle.eager_rules.specs.declared.program.Core.TheFolds.{fold-Core}

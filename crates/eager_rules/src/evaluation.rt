@@ -3,9 +3,11 @@ ghost use Rattle.std.specs.List.{zip};
 ghost use Rattle.krn_base.specs.declared.kind.Kind.TheVariants.{Int64};
 ghost use Rattle.array_ops.specs.Elements.{Unbound};
 ghost use Rattle.array_ops.specs.Operands.{meaning_of};
+ghost use Rattle.eager_rules.specs.Kept.{FitsInstance, IsKernel, KeepsBuffers};
 ghost use Rattle.eager_rules.specs.Outcome.{by_number, ended, instance_outcome, outcome_by, outcome_of, value_of};
 ghost use Rattle.eager_rules.specs.Running.{end_of, meanings, state_of};
 ghost use Rattle.eager_rules.specs.Small.{all_small, bodies_small};
+ghost use Rattle.eager_rules.specs.Sound.{IsTyped};
 ghost use Rattle.eager_rules.specs.State.{bound_to};
 ghost use Rattle.eager_rules.specs.declared.program.Instance.{Instance as AnyInstance};
 
@@ -191,6 +193,10 @@ pub fn eager(
 ) -> Result<Outcome, NoMemory>
     requires small { bodies_small program.now.instances ≡ true }
     ensures outcome { IfOk result (λ o. o ≡ outcome_of program.now kernel call.now) }
+
+    // A well-typed program leaves as many buffers as the call has, each with as many words as before, of its kind.
+    ensures buffers { (f : AnyInstance) → IsKernel program.now kernel f → IsTyped program.now →
+        FitsInstance f call.now → IfOk result (KeepsBuffers call.now) }
 {
     let instances = program.instances.as_slice();
     match program.kernels.as_slice().get(kernel as usize) {

@@ -2,12 +2,12 @@
 ghost use Rattle.std.specs.Prelude.{◌≡◌, ◌<◌, ◌≤◌, false, length, true};
 ghost use Rattle.array_ops.specs.Arrays.{words_of};
 ghost use Rattle.eager_rules.specs.Eager.{Calls};
-ghost use Rattle.eager_rules.specs.Laws.{KeepsOthers, LeavesBuffers, ReadsWhatWasStored, may_change};
+ghost use Rattle.eager_rules.specs.Laws.{IsDeepEnough, IsNeverStuck, KeepsOthers, LeavesBuffers, ReadsWhatWasStored, may_change};
 ghost use Rattle.eager_rules.specs.declared.program.Core.TheOpen as c;
 ghost use Rattle.eager_rules.specs.declared.program.Core.{Core as AnyCore};
 ghost use Rattle.view_places.specs.View.{places};
 ghost use Rattle.eager_rules.specs.Small.{bodies_small};
-ghost use Rattle.eager_rules.specs.Sound.{IsTyped};
+ghost use Rattle.eager_rules.specs.Sound.{IsSound, IsTyped};
 
 use crate::program::Program;
 use krn_base::Seq;
@@ -33,4 +33,17 @@ pub fn stores_are_read(buffers: &[Seq<i64>], target: &View, words: &[i64])
 /// Each statement but an element written, an array store and a call leaves the buffers that stood as they were.
 pub fn operations_leave_buffers()
     ensures { (calls : Calls) (y : c.Core-F AnyCore) → may_change y ≡ false → LeavesBuffers calls y }
+{}
+
+/// In a well-typed program each chain of calls ends before it has passed more instances than there are, so a greater
+/// depth of calls gives the same.
+pub fn calls_end(program: &Program)
+    requires typed { IsTyped program.now }
+    ensures depth { IsDeepEnough program.now }
+{}
+
+/// In a sound program no statement of a call that fits reads what is unbound, and each can be done.
+pub fn sound_is_never_stuck(program: &Program)
+    requires sound { IsSound program.now }
+    ensures ends { IsNeverStuck program.now }
 {}

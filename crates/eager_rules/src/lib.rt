@@ -11,15 +11,22 @@ mod laws;
 mod map_work;
 mod outcome;
 mod program;
+mod small;
 mod state;
 mod statement;
 mod subscripts;
+#[cfg(test)]
+mod tests;
 mod turns;
 mod work;
 
 pub use array_ops::{Fill, MapOp, RedOp};
 pub use call::{Arg, Call};
 pub use evaluation::eager;
-pub use laws::{operations_leave_buffers, stores_are_read, typed_has_small_powers};
+pub use laws::{
+    calls_end, operations_leave_buffers, sound_is_never_stuck, stores_are_read,
+    typed_has_small_powers,
+};
 pub use outcome::{Counts, Outcome, Value};
 pub use program::{Core, CoreSub, Instance, Oper, Program, WordOp};
+pub use small::has_small_powers;
