@@ -1,12 +1,13 @@
 -- What the buffers of a call hold in the end, and what is stored of them.
 use Rattle.std.proofs.Common.{◌≡◌, ◌∙◌, ℕ, suc, arith, ◌<◌, ℤ, Bool, true, false, List, [], ◌∷◌, ◌++◌, map, length, take, Result, Ok}
-use Rattle.std.proofs.Common.{Err, Some, None, refl, sym, ap, subst, IfOk, rules}
+use Rattle.std.proofs.Common.{Err, Some, None, is_some, refl, sym, ap, subst, IfOk, rules}
 use Rattle.std.proofs.Math.Seq.{take-append_seam}
 use Rattle.std.proofs.lemmas.List.{length-map}
 use Rattle.std.proofs.lemmas.List.Elements.{All-nil, All-cons, All-head, All-tail, All-weaker}
 use Rattle.std.specs.List.{All, AllByRecursion}
 use Rattle.array_ops.specs.Elements.{Bound}
 use Rattle.array_ops.specs.declared.operation.MapOp.{MapOp}
+use Rattle.array_ops.specs.declared.operation.MapOp.TheVariants.{Bin}
 use Rattle.call_binding.specs.Fitting.{IsSave}
 use Rattle.call_binding.specs.Sound.{IsArray}
 use Rattle.call_binding.specs.declared.head.Save as bound_save
@@ -23,14 +24,19 @@ use Rattle.eager_rules.specs.declared.program.Core.TheOpen as c
 use Rattle.eager_rules.specs.declared.program.Core.TheVariants as core
 use Rattle.eager_rules.specs.declared.program.Instance.{Instance}
 use Rattle.eager_rules.specs.declared.program.Oper.{Oper}
+use Rattle.eager_rules.specs.declared.program.Oper.TheVariants.{Name}
 use Rattle.krn_base.specs.declared.kind.Kind.{Kind}
 use Rattle.krn_base.specs.declared.fault.Fault.{Fault}
 use Rattle.krn_base.specs.declared.kind.Kind.TheVariants.{Int64, Bool as BoolKind}
 use Rattle.krn_base.specs.declared.place.Loc.{Loc}
 use Rattle.np_file.specs.Npy.{IsWritable, IsTruth, AreWords}
 use Rattle.view_places.specs.declared.shape.Array.{Array}
-use Rattle.pythran_main.specs.Answer.{with_words, final_arrays}
+use Rattle.call_binding.specs.Binding.{BoundMeaning}
+use Rattle.call_report.specs.Report.{report_of}
+use Rattle.pythran_main.specs.Answer.{with_words, final_arrays, saved_of, buffer_heads, counts_of, counted}
+use Rattle.pythran_main.specs.Answer.{Product, product_of}
 use Rattle.pythran_main.specs.Kernel.{instance_of, outcome_on}
+use Rattle.pythran_main.specs.Saves.{Save}
 use Rattle.pythran_main.specs.Steps.{KeepsBuffers}
 use Rattle.pythran_main.specs.declared.kernel.ShortKernel.{ShortKernel}
 
@@ -80,6 +86,19 @@ saves_there arrays words saves e h =
       buffer = subst (λ (n : ℕ). save.buffer < n) (sym (count_of arrays words e)) is.buffer;
       path = is.path;
     }) saves h
+
+-- what a run makes
+pub made_so : (b : BoundMeaning) (o : Outcome) (text : List ℕ) (fault : Bool) (files : List Save)
+    → text ≡ report_of (buffer_heads b.names b.arrays) o (Some (counts_of o)) → fault ≡ is_some o.fault
+    → files ≡ map (saved_of (final_arrays b.arrays o.buffers)) b.saves
+    → (let made : Product = record { output = text; has_fault = fault; saves = files } in made)
+    ≡ product_of b (counted o)
+made_so b o text fault files e f g =
+    let p : Product = product_of b (counted o) in
+    ap (λ (t : List ℕ). let made : Product = record { output = t; has_fault = fault; saves = files } in made) e
+    ∙ ap (λ (t : Bool). let made : Product = record { output = p.output; has_fault = t; saves = files } in made) f
+    ∙ ap (λ (t : List Save).
+    let made : Product = record { output = p.output; has_fault = p.has_fault; saves = t } in made) g
 
 -- ---- words that stay
 
@@ -156,8 +175,8 @@ module _ (calls : Calls) where
       subst Extending same (λ s. where_ready_so _ _ s (stays s.buffers))
 
 bound_buffers : (to : List ℕ) (values : List Bound) (s : State) → (bind_all to values s).buffers ≡ s.buffers
-bound_buffers [] values s = refl
-bound_buffers (name ∷ to) [] s = refl
+bound_buffers to [] s = refl
+bound_buffers [] (value ∷ values) s = refl
 bound_buffers (name ∷ to) (value ∷ values) s = bound_buffers to values (bind name value s)
 
 ended_buffers : (rets : List (Kind × ℕ)) (count : ℕ) (q : State × End)
@@ -181,9 +200,12 @@ left k arrays args =
     let f : Instance = instance_of k in
     let calls : Calls = calls_at (f ∷ []) 1 in
     let start : State = entered f args (words_in arrays) in
+    let operands : List Oper = Name k.left ∷ Name k.right ∷ [] in
+    let values : List Oper = Name 2 ∷ [] in
     ended_buffers f.rets (length arrays) (block calls f.body start)
     ∙ first_ones arrays start.buffers (block calls f.body start).0.buffers (bound_buffers _ args _)
-    (two _ _ (mapped calls 2 _ _ k.at) (returned calls _) start)
+    (two (meaning calls (core.Map 2 (Bin k.op) operands k.at)) (meaning calls (core.Return values))
+    (mapped calls 2 (Bin k.op) operands k.at) (returned calls values) start)
 
 pub keeps_buffers : {E : Type 0} (k : ShortKernel) (arrays : List Array) (args : List Bound) (made : Result Outcome E)
     → All IsFilled arrays → IfOk made (λ o. o ≡ outcome_on (instance_of k) arrays args)

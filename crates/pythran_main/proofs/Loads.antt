@@ -1,9 +1,16 @@
 -- Loads of what is told give the same, and what is loaded for a request leads to its one answer.
 use Rattle.std.proofs.Common.{◌≡◌, ℕ, ◌<◌, ◌≤◌, ◌⊎◌, inl, inr, List, [], length, Option, Result, Ok, Err, refl, sym}
-use Rattle.std.proofs.Common.{◌∙◌, ap, subst, fun_ext, arith}
+use Rattle.std.proofs.Common.{◌∙◌, ap, subst, arith}
+use Rattle.std.proofs.Math.Path.{fun_ext}
+use Rattle.std.specs.Result.{IsErrOf}
 use Rattle.call_binding.specs.Binding.{Binding, bind, ComesTo, Ends, IsAnswer, HasOneAnswer, Call, Refused, Asks}
-use Rattle.call_binding.specs.Files.{IsTold, AreRead, AreTold}
+use Rattle.call_binding.specs.Binding as binding
+use Rattle.call_binding.specs.Files.{IsTold, IsTooLong, AreRead, AreTold}
 use Rattle.call_binding.specs.Outcome.{MeetsLong}
+use Rattle.call_binding.specs.declared.head.BindStop.{BindStop}
+use Rattle.call_binding.specs.declared.head.BindStop.TheVariants as stop
+use Rattle.call_binding.specs.declared.head.BoundCall.{BoundCall}
+use Rattle.call_binding.specs.declared.head.KernelHead.{KernelHead}
 use Rattle.host_io.specs.Counts.{Rose}
 use Rattle.host_io.specs.Files.{Held, Untold, Missing, Bytes}
 use Rattle.host_io.specs.declared.files.Files as files_trait
@@ -15,7 +22,7 @@ use Rattle.pythran_main.specs.Answer as answer
 use Rattle.pythran_main.specs.Loads.{Content, Whole, Longer, Loaded, Gives}
 use Rattle.pythran_main.specs.Reading.{IsOneReading}
 use Rattle.pythran_main.specs.Request.{Asked}
-use Rattle.pythran_main.specs.Steps.{Prepared, Prepares, CallsTo, LeadsTo, IsUnloaded}
+use Rattle.pythran_main.specs.Steps.{Prepared, Prepares, CallsTo, LeadsTo, IsUnloaded, stopped}
 use Rattle.pythran_main.specs.World.{Filed, AreKept, files_of}
 use Rattle.pythran_main.specs.declared.answer.Report.{Report}
 use Rattle.pythran_main.specs.declared.kernel.ShortKernel.{ShortKernel}
@@ -45,7 +52,7 @@ same_gave (Bytes file) most Longer Longer gives_a gives_b told = refl
 -- what a source's load leads to is what the request comes to
 module _ (asked : Asked) (held : List ℕ → Held) (gave : Content) (a : Answer)
     (gives : Gives (held asked.source) source_limit gave) (leads : LeadsTo asked gave held a) where
-  loaded : Loaded
+  abbrev loaded : Loaded
   loaded = record { source = gave; arrays = leads.arrays }
 
   same_source : (others : Loaded) (other : Answer) → Agree asked held loaded others → Answers asked held others other
@@ -119,27 +126,43 @@ not_loaded asked files _ h = absurd h
 
 -- ---- what binding comes to
 
-module _ (asked : Asked) (source : Source) (held : List ℕ → Held)
-    (one : AreTold held (array_files asked) → HasOneAnswer held (to_bind asked source)) where
-  calls_to : (b : Binding) (a : Answer) → ComesTo held (to_bind asked source) b → Ends held b
-      → a ≡ answer_of source b → CallsTo asked source held a
-  calls_to b a comes ends is = record {
-    arrays = comes.reads;
-    are_read = comes.are_read;
-    called = subst (λ (x : Binding). IsCalled held source x a) (sym comes.is) (ends, is);
-    one = one;
+module _ (asked : Asked) (source : Source) (held : List ℕ → Held) (heads : List KernelHead)
+    (same : heads ≡ source.heads)
+    (one : AreTold held (array_files asked) → HasOneAnswer held (binding.asked heads asked.kernel asked.items)) where
+  the_one : AreTold held (array_files asked) → HasOneAnswer held (to_bind asked source)
+  the_one told =
+      subst (λ (h : List KernelHead). HasOneAnswer held (binding.asked h asked.kernel asked.items)) same (one told)
+
+  pub bound_so : (b : Binding) (a : Answer) → ComesTo held (binding.asked heads asked.kernel asked.items) b
+      → Ends held b → a ≡ answer_of source b → CallsTo asked source held a
+  bound_so b a comes ends is = record {
+    arrays = c.reads;
+    are_read = c.are_read;
+    called = subst (λ (x : Binding). IsCalled held source x a) (sym c.is) (ends, is);
+    one = the_one;
   }
+    where
+      c : ComesTo held (to_bind asked source) b
+      c = subst (λ (h : List KernelHead). ComesTo held (binding.asked h asked.kernel asked.items) b) same comes
 
-  pub bound_so : (b : Binding) (a : Answer) → ComesTo held (to_bind asked source) b → Ends held b
-      → a ≡ answer_of source b → CallsTo asked source held a
-  bound_so = calls_to
+  long_so : (path : List ℕ) → ComesTo held (binding.asked heads asked.kernel asked.items) (Asks path)
+      → IsTooLong (held path) → CallsTo asked source held answer.TooLong
+  long_so path comes long = bound_so (Asks path) answer.TooLong comes long refl
 
-  pub item_so : (n : ℕ) → ComesTo held (to_bind asked source) (Refused n)
-      → CallsTo asked source held (answer.RefusedItem n)
-  item_so n comes = calls_to (Refused n) (answer.RefusedItem n) comes tt refl
-
-  pub long_so : MeetsLong held (to_bind asked source) → CallsTo asked source held answer.TooLong
-  long_so meets = calls_to (Asks meets.path) answer.TooLong meets.comes meets.long refl
+  -- items that make no call
+  pub stopped_so : (before after : ℕ) (result : Result BoundCall BindStop) (s : BindStop) → result ≡ Err s
+      → ((n : ℕ) → IsErrOf result (stop.Item n)
+      → ComesTo held (binding.asked heads asked.kernel asked.items) (Refused n))
+      → (IsErrOf result stop.LoadFailed → Rose before after)
+      → (IsErrOf result stop.TooLong → MeetsLong held (binding.asked heads asked.kernel asked.items))
+      → Prepared before after (CallsTo asked source held) (Err (stopped s))
+  stopped_so before after result (stop.Item n) is refused failed long =
+      bound_so (Refused n) (answer.RefusedItem n) (refused n is) tt refl
+  stopped_so before after result stop.LoadFailed is refused failed long = failed is
+  stopped_so before after result stop.TooLong is refused failed long =
+      let m : MeetsLong held (binding.asked heads asked.kernel asked.items) = long is in
+      long_so m.path m.comes m.long
+  stopped_so before after result stop.Memory is refused failed long = tt
 
 -- ---- a reading that is alone makes its answer alone
 
@@ -154,7 +177,7 @@ module _ (asked : Asked) (file : List ℕ) where
       subst Q (one.alone as_read reading) (subst P is follows)
 
   module _ (k : ShortKernel) (one : IsOneReading file (Ok k)) where
-    bound : List (Option Array) → Binding
+    abbrev bound : List (Option Array) → Binding
     bound arrays = bind (source_of k).heads asked.kernel asked.items arrays
 
     is_answer : (held : List ℕ → Held) (arrays : List (Option Array)) → AreRead held (array_files asked) arrays

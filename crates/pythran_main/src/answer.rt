@@ -1,20 +1,21 @@
-ghost use Rattle.std.specs.Prelude.{◌≡◌, ◌<◌, ◌≤◌, ◌^◌, [], ◌∷◌, length, IfOk};
+ghost use Rattle.std.specs.Prelude.{◌≡◌, ◌<◌, ◌≤◌, ◌^◌, [], ◌∷◌, length, Some, IfOk};
 ghost use Rattle.std.specs.List.{All};
 ghost use Rattle.call_binding.specs.Binding.{meaning as bound_meaning};
 ghost use Rattle.call_binding.specs.Fitting.{IsSave};
 ghost use Rattle.call_binding.specs.Sound.{IsArray};
+ghost use Rattle.call_report.specs.Report.{report_of};
 ghost use Rattle.pythran_main.specs.Answer.{product_of, source_of};
 ghost use Rattle.pythran_main.specs.Answer as spec;
 ghost use Rattle.pythran_main.specs.Loads.{Whole};
 ghost use Rattle.pythran_main.specs.Request.{meaning};
-ghost use Rattle.pythran_main.specs.Steps.{product, Prepares, CallsTo, LeadsTo, KeepsBuffers};
+ghost use Rattle.pythran_main.specs.Steps.{product, Prepares, CallsTo, LeadsTo};
 ghost use Rattle.pythran_main.specs.World.{files_of, AreKept};
 
 use crate::kernel::ShortKernel;
 use crate::module_form::read_module;
 use crate::program::{params_of, run};
 use crate::request::Request;
-use crate::saved_file::{SavedFile, final_arrays, saved_files};
+use crate::saved_file::{SavedFile, run_files};
 use crate::trouble::Trouble;
 use call_binding::{BoundCall, KernelHead, bind};
 use call_report::{BufferHead, report};
@@ -84,6 +85,21 @@ fn counts_of(outcome: &Outcome) -> Counts
     }
 }
 
+/// The report of a call with these buffers.
+fn text_of(
+    alloc: Global,
+    names: &[Text],
+    buffers: &[Array],
+    outcome: &Outcome,
+) -> Result<Seq<u8>, NoMemory>
+    ensures { IfOk result (λ text. text ≡
+        report_of (spec.buffer_heads names.now buffers.now) outcome.now (Some (spec.counts_of outcome.now))) }
+{
+    let heads = buffer_heads(alloc, names, buffers)?;
+    let text = report(alloc, heads.as_slice(), outcome, Some(counts_of(outcome)))?;
+    Ok(Seq::from_vec(text))
+}
+
 /// The report of the kernel's run on a bound call, and the files of its saved buffers.
 fn run_bound(alloc: Global, kernel: &ShortKernel, bound: BoundCall) -> Result<Report, NoMemory>
     requires arrays { All IsArray bound.call.buffers }
@@ -97,15 +113,13 @@ fn run_bound(alloc: Global, kernel: &ShortKernel, bound: BoundCall) -> Result<Re
         saves,
         ..
     } = bound;
-    let heads = buffer_heads(alloc, names.as_slice(), call.buffers.as_slice())?;
     let outcome = run(alloc, kernel, &call)?;
-    let text = report(alloc, heads.as_slice(), &outcome, Some(counts_of(&outcome)))?;
+    let text = text_of(alloc, names.as_slice(), call.buffers.as_slice(), &outcome)?;
     let has_fault = outcome.fault.is_some();
-    let finals = final_arrays(alloc, call.buffers, outcome.buffers)?;
     Ok(Report {
-        text: Seq::from_vec(text),
+        text,
         has_fault,
-        saves: saved_files(alloc, finals.as_slice(), saves.as_slice())?,
+        saves: run_files(alloc, call.buffers, outcome.buffers, saves.as_slice())?,
     })
 }
 

@@ -2,10 +2,11 @@ ghost use Rattle.std.specs.Prelude.{◌≡◌, ◌<◌, IfOk, map, length};
 ghost use Rattle.std.specs.List.{All};
 ghost use Rattle.std.specs.Str.{IsUtf8};
 ghost use Rattle.call_binding.specs.Fitting.{IsSave};
+ghost use Rattle.call_binding.specs.Sound.{IsArray};
 ghost use Rattle.np_file.specs.Npy.{IsWritable};
 ghost use Rattle.pythran_main.specs.Answer as spec;
 ghost use Rattle.pythran_main.specs.Answer.{saved_of};
-ghost use Rattle.pythran_main.specs.Steps.{save_of};
+ghost use Rattle.pythran_main.specs.Steps.{save_of, KeepsBuffers};
 
 use call_binding::Save;
 use krn_base::{NoMemory, Seq};
@@ -22,7 +23,7 @@ pub struct SavedFile {
 }
 
 /// The arrays that buffers hold in the end: each in the kind and the shape that it was given. Words are moved.
-pub fn final_arrays(
+fn final_arrays(
     alloc: Global,
     arrays: Seq<Array>,
     words: Seq<Seq<i64>>,
@@ -65,11 +66,7 @@ fn saved_file(alloc: Global, arrays: &[Array], save: &Save) -> Result<SavedFile,
 }
 
 /// The array files of the saved buffers, in their order.
-pub fn saved_files(
-    alloc: Global,
-    arrays: &[Array],
-    saves: &[Save],
-) -> Result<Seq<SavedFile>, NoMemory>
+fn saved_files(alloc: Global, arrays: &[Array], saves: &[Save]) -> Result<Seq<SavedFile>, NoMemory>
     requires arrays { All IsWritable arrays.now }
     requires saves { All (IsSave arrays.now) saves.now }
     ensures { IfOk result (λ files. map save_of files ≡ map (saved_of arrays.now) saves.now) }
@@ -81,4 +78,21 @@ pub fn saved_files(
         }
     }
     Ok(Seq::from_vec(files))
+}
+
+/// The files of the saved buffers of a run, from the call's buffers and the words that they hold in the end. Words are
+/// moved, and the words of the call are let go before the first file is made.
+pub fn run_files(
+    alloc: Global,
+    arrays: Seq<Array>,
+    words: Seq<Seq<i64>>,
+    saves: &[Save],
+) -> Result<Seq<SavedFile>, NoMemory>
+    requires arrays { All IsArray arrays }
+    requires kept { KeepsBuffers arrays words }
+    requires saves { All (IsSave arrays) saves.now }
+    ensures { IfOk result (λ files. map save_of files ≡ map (saved_of (spec.final_arrays arrays words)) saves.now) }
+{
+    let finals = final_arrays(alloc, arrays, words)?;
+    saved_files(alloc, finals.as_slice(), saves)
 }
