@@ -1,6 +1,6 @@
 -- What the buffers of a call hold in the end, and what is stored of them.
 use Rattle.std.proofs.Common.{◌≡◌, ◌∙◌, ℕ, suc, arith, ◌<◌, ℤ, Bool, true, false, List, [], ◌∷◌, ◌++◌, map, length, take, Result, Ok}
-use Rattle.std.proofs.Common.{Err, Some, None, is_some, refl, sym, ap, subst, IfOk, rules}
+use Rattle.std.proofs.Common.{Err, Some, is_some, refl, sym, ap, subst, IfOk, rules}
 use Rattle.std.proofs.Math.Seq.{take-append_seam}
 use Rattle.std.proofs.lemmas.List.{length-map}
 use Rattle.std.proofs.lemmas.List.Elements.{All-nil, All-cons, All-head, All-tail, All-weaker}
@@ -88,12 +88,12 @@ saves_there arrays words saves e h =
     }) saves h
 
 -- what a run makes
-pub made_so : (b : BoundMeaning) (o : Outcome) (text : List ℕ) (fault : Bool) (files : List Save)
+pub product_so : (b : BoundMeaning) (o : Outcome) (text : List ℕ) (fault : Bool) (files : List Save)
     → text ≡ report_of (buffer_heads b.names b.arrays) o (Some (counts_of o)) → fault ≡ is_some o.fault
     → files ≡ map (saved_of (final_arrays b.arrays o.buffers)) b.saves
     → (let made : Product = record { output = text; has_fault = fault; saves = files } in made)
     ≡ product_of b (counted o)
-made_so b o text fault files e f g =
+product_so b o text fault files e f g =
     let p : Product = product_of b (counted o) in
     ap (λ (t : List ℕ). let made : Product = record { output = t; has_fault = fault; saves = files } in made) e
     ∙ ap (λ (t : Bool). let made : Product = record { output = p.output; has_fault = t; saves = files } in made) f

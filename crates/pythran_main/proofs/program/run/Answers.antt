@@ -12,6 +12,6 @@ returns-clause-outcome c =
 pub returns-clause-kept : goal.returns-clause-kept
 returns-clause-kept c =
     keeps_buffers c.args.kernel.now c.args.call.now.buffers (map bound_to c.args.call.now.args) c.eager.result
-    c.args.requires
+    c.requires
     (outcome_so c.args.kernel.now c.args.call.now c.in_ok-program.program c.eager.result c.in_ok-program.ensures.program
     c.eager.ensures.outcome)
