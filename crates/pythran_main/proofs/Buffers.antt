@@ -1,5 +1,6 @@
 -- What the buffers of a call hold in the end, and what is stored of them.
-use Rattle.std.proofs.Common.{◌≡◌, ◌∙◌, ℕ, suc, arith, ◌<◌, ℤ, Bool, true, false, List, [], ◌∷◌, ◌++◌, map, length, take, Result, Ok}
+use Rattle.std.proofs.Common.{◌≡◌, ◌∙◌, ℕ, suc, arith, ◌<◌, ℤ, Bool, true, false, List, [], ◌∷◌, ◌++◌}
+use Rattle.std.proofs.Common.{map, length, take, Result, Ok}
 use Rattle.std.proofs.Common.{Err, Some, is_some, refl, sym, ap, subst, IfOk, rules}
 use Rattle.std.proofs.Math.Seq.{take-append_seam}
 use Rattle.std.proofs.lemmas.List.{length-map}
@@ -50,7 +51,8 @@ are_words : (kind : Kind) (zs : List ℤ) → All (IsOfKind kind) zs → AreWord
 are_words Int64 zs h = tt
 are_words BoolKind zs h = truths zs h
 
-writable : (a : Array) (words : List ℤ) → IsArray a → IsFilled (with_words (a, words)) → IsWritable (with_words (a, words))
+writable : (a : Array) (words : List ℤ) → IsArray a → IsFilled (with_words (a, words))
+    → IsWritable (with_words (a, words))
 writable a words is filled = record {
   shape = is.shape;
   rank = is.rank;

@@ -15,6 +15,6 @@ returns c =
     let words = YieldsList-from_vec c.args.words word_items
     (c.zip-array-items.result.b.rest.ok.0 ∙ ap length word_items) in
     let pairs = YieldsList-at c.into_iter-array-iterator.ensures.into_iter_gives (YieldsList-from_zip arrays words) in
-    let end = YieldsList-end pairs c.loop-array.yielded c.loop-array.array-iterator c.loop-array.yielded_by c.next.result
-    c.next.new.self c.in-None.is c.next.ensures.steps in
+    let end = YieldsList-end pairs c.loop-array.yielded c.loop-array.array-iterator c.loop-array.yielded_by
+    c.next.result c.next.new.self c.in-None.is c.next.ensures.steps in
     c.loop-array.invariant ∙ ap (λ ps. map with_words ps) end.0
