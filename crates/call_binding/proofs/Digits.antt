@@ -47,7 +47,7 @@ form_numeral (c ∷ rest) e =
     (without_leading_plus (c ∷ rest)))) [
       | true ↦ λ e'. decimal_numeral rest e'
       | false ↦ λ e'. subst (IsNumeral 10) (sym (without_leading_plus_none (c ∷ rest) (no_plus (c ∷ rest) e')))
-      (decimal_numeral (c ∷ rest) e')
+          (decimal_numeral (c ∷ rest) e')
     ]) e
 
 fits_word : (z : ℤ) → SFits w64 z → is_word z ≡ true

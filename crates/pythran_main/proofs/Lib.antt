@@ -1,3 +1,4 @@
+pub mod Buffers
 mod Layers
 mod Lists
 pub mod Loads

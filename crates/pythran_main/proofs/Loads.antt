@@ -1,142 +1,225 @@
--- Loads of what is told give the same, and the loads of a request lead to its one answer.
-use Rattle.std.proofs.Common.{◌≡◌, ℕ, ◌+◌, ◌<◌, ◌≤◌, List, [], ◌∷◌, length, take, Result, Ok, Err, refl, sym, ◌∙◌, ap}
-use Rattle.std.proofs.Common.{subst, arith}
-use Rattle.host_io.specs.Files.{Held, IsContent, IsCutContent}
-use Rattle.call_items.specs.Binding.{BoundMeaning, bind}
+-- Loads of what is told give the same, and what is loaded for a request leads to its one answer.
+use Rattle.std.proofs.Common.{◌≡◌, ℕ, ◌<◌, ◌≤◌, ◌⊎◌, inl, inr, List, [], length, Option, Result, Ok, Err, refl, sym}
+use Rattle.std.proofs.Common.{◌∙◌, ap, subst, arith}
+use Rattle.std.proofs.Math.Path.{fun_ext}
+use Rattle.std.specs.Result.{IsErrOf}
+use Rattle.call_binding.specs.Binding.{Binding, bind, ComesTo, Ends, IsAnswer, HasOneAnswer, Call, Refused, Asks}
+use Rattle.call_binding.specs.Binding as binding
+use Rattle.call_binding.specs.Files.{IsTold, IsTooLong, AreRead, AreTold}
+use Rattle.call_binding.specs.Outcome.{MeetsLong}
+use Rattle.call_binding.specs.declared.head.BindStop.{BindStop}
+use Rattle.call_binding.specs.declared.head.BindStop.TheVariants as stop
+use Rattle.call_binding.specs.declared.head.BoundCall.{BoundCall}
+use Rattle.call_binding.specs.declared.head.KernelHead.{KernelHead}
+use Rattle.host_io.specs.Counts.{Rose}
+use Rattle.host_io.specs.Files.{Held, Untold, Missing, Bytes}
+use Rattle.host_io.specs.declared.files.Files as files_trait
 use Rattle.krn_base.specs.declared.refusal.Refusal.{Refusal}
-use Rattle.pythran_main.specs.Answer.{Answer, Source, source_of, source_in, source_limit}
-use Rattle.pythran_main.specs.Answer.{IsCalled, IsFollowed, IsRead, Answers, Reaches}
+use Rattle.view_places.specs.declared.shape.Array.{Array}
+use Rattle.pythran_main.specs.Answer.{Answer, Source, source_of, source_in, source_limit, to_bind, array_files}
+use Rattle.pythran_main.specs.Answer.{answer_of, IsCalled, IsFollowed, IsRead, Answers, Stands, Agree, Reaches}
 use Rattle.pythran_main.specs.Answer as answer
-use Rattle.pythran_main.specs.Loads.{Content, Whole, Longer, Load, Gives, AreLoaded, Tells, AreTold, Agree}
+use Rattle.pythran_main.specs.Loads.{Content, Whole, Longer, Loaded, Gives}
 use Rattle.pythran_main.specs.Reading.{IsOneReading}
 use Rattle.pythran_main.specs.Request.{Asked}
-use Rattle.pythran_main.specs.Steps.{Prepared, source_load, IsOneAnswer, IsUnloaded, Prepares}
-use Rattle.pythran_main.specs.World.{Filed}
+use Rattle.pythran_main.specs.Steps.{Prepared, Prepares, CallsTo, LeadsTo, IsUnloaded, stopped}
+use Rattle.pythran_main.specs.World.{Filed, AreKept, files_of}
 use Rattle.pythran_main.specs.declared.answer.Report.{Report}
 use Rattle.pythran_main.specs.declared.kernel.ShortKernel.{ShortKernel}
 use Rattle.pythran_main.specs.declared.trouble.Trouble.{Trouble}
-use Rattle.pythran_main.specs.declared.trouble.Trouble.TheVariants.{NoRequest, Refused, RefusedItem, LoadFailed}
-use Rattle.pythran_main.specs.declared.trouble.Trouble.TheVariants.{WriteFailed, StoreFailed, Memory, TooLong}
+use Rattle.pythran_main.specs.declared.trouble.Trouble.TheVariants as trouble
+use Rattle.pythran_main.proofs.Saves.{rose_since}
 
 -- ---- what is told is what is loaded
 
-same_gave : (file : Held) (most : ℕ) (a b : Content) → Gives file most a → Tells file most b → a ≡ b
-same_gave file most (Whole x) (Whole y) gives tells =
-    ap Whole (subst (λ (h : Held). IsContent h x) (tells.0) (gives.0))
-same_gave file most (Whole x) Longer gives (y, is, long) =
-    let same : x ≡ y = subst (λ (h : Held). IsContent h x) is (gives.0) in
-    let within : length y ≤ most = subst (λ (z : List ℕ). length z ≤ most) same (gives.1) in
+same_gave : (file : Held) (most : ℕ) (a b : Content) → Gives file most a → Gives file most b → IsTold file → a ≡ b
+same_gave Untold most a b gives_a gives_b told = absurd told
+same_gave Missing most (Whole x) b gives_a gives_b told = absurd (gives_a.0)
+same_gave Missing most Longer b gives_a gives_b told = absurd gives_a.cut
+same_gave (Bytes file) most (Whole x) (Whole y) gives_a gives_b told = ap Whole (gives_a.0 ∙ sym (gives_b.0))
+same_gave (Bytes file) most (Whole x) Longer gives_a gives_b told =
+    let within : length file ≤ most = subst (λ (z : List ℕ). length z ≤ most) (gives_a.0) (gives_a.1) in
+    let long : most < length file = gives_b.cut.0 in
     absurd (omega (arith, within, long))
-same_gave file most Longer (Whole y) gives tells =
-    let cut : (most < length y) × (gives.first ≡ take (most + 1) y) =
-    subst (λ (h : Held). IsCutContent h most gives.first) (tells.0) gives.cut in
-    let long : most < length y = cut.0 in
-    let within : length y ≤ most = tells.1 in
+same_gave (Bytes file) most Longer (Whole y) gives_a gives_b told =
+    let within : length file ≤ most = subst (λ (z : List ℕ). length z ≤ most) (gives_b.0) (gives_b.1) in
+    let long : most < length file = gives_a.cut.0 in
     absurd (omega (arith, within, long))
-same_gave file most Longer Longer gives tells = refl
-
-pub agree : (held : List ℕ → Held) (loads others : List Load) → AreLoaded held loads → AreTold held others
-    → Agree loads others
-agree held [] others loaded told = tt
-agree held (a ∷ more) [] loaded told = tt
-agree held (a ∷ more) (b ∷ others) loaded told = (same, agree held more others (loaded.1) (told.1))
-  where
-    same : a.name ≡ b.name → a.most ≡ b.most → a.gave ≡ b.gave
-    same name most =
-        let P : List ℕ → Type 0 = λ n. Tells (held n) b.most b.gave in
-        let Q : ℕ → Type 0 = λ m. Tells (held a.name) m b.gave in
-        same_gave (held a.name) a.most a.gave b.gave (loaded.0) (subst Q (sym most) (subst P (sym name) (told.0)))
+same_gave (Bytes file) most Longer Longer gives_a gives_b told = refl
 
 -- ---- a request's one answer
 
--- a source's load that leads to one answer
-pub reaches : (asked : Asked) (held : List ℕ → Held) (gave : Content) (a : Answer)
-    → Gives (held asked.source) source_limit gave → IsOneAnswer asked gave a → Reaches asked held a
-reaches asked held gave a gives one = record {
-  loads = source_load asked gave ∷ [];
-  loaded = (gives, tt);
-  answers = one.answers;
-  alone = alone;
-}
-  where
-    alone : (others : List Load) (other : Answer) → Agree (source_load asked gave ∷ []) others
-        → Answers asked others other
-        → other ≡ a
-    alone [] other same answers = absurd answers
-    alone (load ∷ rest) other same answers =
-        let P : Content → Type 0 = λ c. IsRead asked c rest other in
-        let given : gave ≡ load.gave = same.0 (sym (answers.0)) (sym (answers.1)) in
-        one.alone rest other (refl, refl, subst P (sym given) (answers.2))
+-- what a source's load leads to is what the request comes to
+module _ (asked : Asked) (held : List ℕ → Held) (gave : Content) (a : Answer)
+    (gives : Gives (held asked.source) source_limit gave) (leads : LeadsTo asked gave held a) where
+  abbrev loaded : Loaded
+  loaded = record { source = gave; arrays = leads.arrays }
 
-too_long : (asked : Asked) → IsOneAnswer asked Longer answer.TooLong
-too_long asked = record { answers = (refl, refl, (refl, refl)); alone = λ rest other h. h.2.1 }
+  same_source : (others : Loaded) (other : Answer) → Agree asked held loaded others → Answers asked held others other
+      → others.source ≡ gave
+  same_source others other (inl is) answers = ap (λ (l : Loaded). l.source) is
+  same_source others other (inr told) answers =
+      same_gave (held asked.source) source_limit others.source gave answers.source gives told.source
+
+  same_arrays : (others : Loaded) → others.source ≡ gave → Agree asked held loaded others
+      → (others.arrays ≡ leads.arrays) ⊎ (Stands asked gave → AreTold held (array_files asked))
+  same_arrays others same (inl is) = inl (ap (λ (l : Loaded). l.arrays) is)
+  same_arrays others same (inr told) =
+      inr (subst (λ (c : Content). Stands asked c → AreTold held (array_files asked)) same told.arrays)
+
+  pub reaches : Reaches asked held a
+  reaches = record {
+    loaded = loaded;
+    answers = record { source = gives; arrays = leads.are_read; answer = leads.answer };
+    alone = alone;
+  }
+    where
+      alone : (others : Loaded) (other : Answer) → Agree asked held loaded others → Answers asked held others other
+          → other ≡ a
+      alone others other agree answers =
+          let same : others.source ≡ gave = same_source others other agree answers in
+          leads.alone others.arrays other (same_arrays others same agree) answers.arrays
+          (subst (λ (c : Content). IsRead asked held c others.arrays other) same answers.answer)
+
+too_long : (asked : Asked) (held : List ℕ → Held) → LeadsTo asked Longer held answer.TooLong
+too_long asked held = record {
+  arrays = [];
+  are_read = tt;
+  answer = (refl, refl);
+  alone = λ others other same read h. h.1;
+}
 
 -- the same of each answer that was prepared
-prepared_as : (P Q : Answer → Type 0) (r : Result Report Trouble) → ((a : Answer) → P a → Q a) → Prepared P r
-    → Prepared Q r
-prepared_as P Q (Ok r) f p = f _ p
-prepared_as P Q (Err NoRequest) f p = p
-prepared_as P Q (Err (Refused r)) f p = f _ p
-prepared_as P Q (Err (RefusedItem n)) f p = f _ p
-prepared_as P Q (Err LoadFailed) f p = p
-prepared_as P Q (Err WriteFailed) f p = p
-prepared_as P Q (Err StoreFailed) f p = p
-prepared_as P Q (Err Memory) f p = p
-prepared_as P Q (Err TooLong) f p = f _ p
+prepared_as : (before after first last : ℕ) (P Q : Answer → Type 0) (r : Result Report Trouble)
+    → (Rose before after → Rose first last) → ((a : Answer) → P a → Q a) → Prepared before after P r
+    → Prepared first last Q r
+prepared_as before after first last P Q (Ok r) rose f p = f _ p
+prepared_as before after first last P Q (Err trouble.NoRequest) rose f p = p
+prepared_as before after first last P Q (Err (trouble.Refused r)) rose f p = f _ p
+prepared_as before after first last P Q (Err (trouble.RefusedItem n)) rose f p = f _ p
+prepared_as before after first last P Q (Err trouble.LoadFailed) rose f p = rose p
+prepared_as before after first last P Q (Err trouble.WriteFailed) rose f p = p
+prepared_as before after first last P Q (Err trouble.StoreFailed) rose f p = p
+prepared_as before after first last P Q (Err trouble.Memory) rose f p = p
+prepared_as before after first last P Q (Err trouble.TooLong) rose f p = f _ p
 
-by_files : (asked : Asked) (files : Filed) (r : Result Report Trouble) → Prepared (Reaches asked files.before) r
-    → Prepares asked files r
-by_files asked files (Ok r) p = p
-by_files asked files (Err LoadFailed) p = absurd p
-by_files asked files (Err _) p = p
-
-pub loaded_so : (asked : Asked) (files : Filed) (file : List ℕ) (r : Result Report Trouble)
-    → Gives (files.before asked.source) source_limit (Whole file) → Prepared (IsOneAnswer asked (Whole file)) r
-    → Prepares asked files r
-loaded_so asked files file r gives p =
-    by_files asked files r
-    (prepared_as _ _ r (λ a one. reaches asked files.before (Whole file) a gives one) p)
+-- behind a source's load, which left the files as they were
+module _ {F : Type 0} (files : files_trait.Ghosts F) (old now new : F) (asked : Asked)
+    (more : files.faults old ≤ files.faults now) (kept : AreKept (files_of files old now)) where
+  pub loaded_so : (file : List ℕ) (r : Result Report Trouble)
+      → Gives (files.held old asked.source) source_limit (Whole file)
+      → Prepares (LeadsTo asked (Whole file)) (files_of files now new) r
+      → Prepares (Reaches asked) (files_of files old new) r
+  loaded_so file r gives p =
+      prepared_as (files.faults now) (files.faults new) (files.faults old) (files.faults new) _ _ r
+      (rose_since (files.faults old) (files.faults now) (files.faults new) more)
+      (λ a leads. reaches asked (files.held old) (Whole file) a gives
+      (subst (λ (h : List ℕ → Held). LeadsTo asked (Whole file) h a) (fun_ext kept) leads)) p
 
 pub not_loaded : (asked : Asked) (files : Filed) (t : Trouble) → IsUnloaded files asked.source t
-    → Prepares asked files (Err t)
-not_loaded asked files LoadFailed h = h
-not_loaded asked files TooLong h = reaches asked files.before Longer answer.TooLong h (too_long asked)
-not_loaded asked files Memory h = tt
+    → Prepares (Reaches asked) files (Err t)
+not_loaded asked files trouble.LoadFailed h = h
+not_loaded asked files trouble.TooLong h =
+    reaches asked files.before Longer answer.TooLong h (too_long asked files.before)
+not_loaded asked files trouble.Memory h = tt
 not_loaded asked files _ h = absurd h
+
+-- ---- what binding comes to
+
+module _ (asked : Asked) (source : Source) (held : List ℕ → Held) (heads : List KernelHead)
+    (same : heads ≡ source.heads)
+    (one : AreTold held (array_files asked) → HasOneAnswer held (binding.asked heads asked.kernel asked.items)) where
+  the_one : AreTold held (array_files asked) → HasOneAnswer held (to_bind asked source)
+  the_one told =
+      subst (λ (h : List KernelHead). HasOneAnswer held (binding.asked h asked.kernel asked.items)) same (one told)
+
+  pub bound_so : (b : Binding) (a : Answer) → ComesTo held (binding.asked heads asked.kernel asked.items) b
+      → Ends held b → a ≡ answer_of source b → CallsTo asked source held a
+  bound_so b a comes ends is = record {
+    arrays = c.reads;
+    are_read = c.are_read;
+    called = subst (λ (x : Binding). IsCalled held source x a) (sym c.is) (ends, is);
+    one = the_one;
+  }
+    where
+      c : ComesTo held (to_bind asked source) b
+      c = subst (λ (h : List KernelHead). ComesTo held (binding.asked h asked.kernel asked.items) b) same comes
+
+  long_so : (path : List ℕ) → ComesTo held (binding.asked heads asked.kernel asked.items) (Asks path)
+      → IsTooLong (held path) → CallsTo asked source held answer.TooLong
+  long_so path comes long = bound_so (Asks path) answer.TooLong comes long refl
+
+  -- items that make no call
+  pub stopped_so : (before after : ℕ) (result : Result BoundCall BindStop) (s : BindStop) → result ≡ Err s
+      → ((n : ℕ) → IsErrOf result (stop.Item n)
+      → ComesTo held (binding.asked heads asked.kernel asked.items) (Refused n))
+      → (IsErrOf result stop.LoadFailed → Rose before after)
+      → (IsErrOf result stop.TooLong → MeetsLong held (binding.asked heads asked.kernel asked.items))
+      → Prepared before after (CallsTo asked source held) (Err (stopped s))
+  stopped_so before after result (stop.Item n) is refused failed long =
+      bound_so (Refused n) (answer.RefusedItem n) (refused n is) tt refl
+  stopped_so before after result stop.LoadFailed is refused failed long = failed is
+  stopped_so before after result stop.TooLong is refused failed long =
+      let m : MeetsLong held (binding.asked heads asked.kernel asked.items) = long is in
+      long_so m.path m.comes m.long
+  stopped_so before after result stop.Memory is refused failed long = tt
 
 -- ---- a reading that is alone makes its answer alone
 
-called_same : (source : Source) (r : Result BoundMeaning ℕ) (loads others : List Load) (a b : Answer)
-    → IsCalled source r loads a → IsCalled source r others b → b ≡ a
-called_same source (Err n) loads others a b x y = y.1 ∙ sym (x.1)
-called_same source (Ok m) loads others a b x y = y.1 ∙ sym (x.1)
-
 module _ (asked : Asked) (file : List ℕ) where
   -- another answer follows from the same reading
-  followed : (read : Result ShortKernel Refusal) (rest : List Load) (other : Answer) → IsOneReading file read
-      → IsRead asked (Whole file) rest other → IsFollowed asked (source_in read) rest other
-  followed read rest other one (found, (as_read, reading, is), follows) =
-      let P : Result Source Refusal → Type 0 = λ x. IsFollowed asked x rest other in
-      let Q : Result ShortKernel Refusal → Type 0 = λ x. IsFollowed asked (source_in x) rest other in
+  followed : (held : List ℕ → Held) (read : Result ShortKernel Refusal) (arrays : List (Option Array)) (other : Answer)
+      → IsOneReading file read → IsRead asked held (Whole file) arrays other
+      → IsFollowed asked held (source_in read) arrays other
+  followed held read arrays other one (found, (as_read, reading, is), follows) =
+      let P : Result Source Refusal → Type 0 = λ x. IsFollowed asked held x arrays other in
+      let Q : Result ShortKernel Refusal → Type 0 = λ x. IsFollowed asked held (source_in x) arrays other in
       subst Q (one.alone as_read reading) (subst P is follows)
 
-  pub called : (k : ShortKernel) (a : Answer) → IsOneReading file (Ok k)
-      → IsCalled (source_of k) (bind (source_of k).heads asked.kernel asked.items) [] a
-      → IsOneAnswer asked (Whole file) a
-  called k a one c = record {
-    answers = (refl, refl, (Ok (source_of k), (Ok k, one.gives, refl), c));
-    alone = λ rest other h.
-        called_same (source_of k) (bind (source_of k).heads asked.kernel asked.items) [] rest a other c
-        (followed (Ok k) rest other one (h.2));
-  }
+  module _ (k : ShortKernel) (one : IsOneReading file (Ok k)) where
+    abbrev bound : List (Option Array) → Binding
+    bound arrays = bind (source_of k).heads asked.kernel asked.items arrays
 
-  pub called_so : (k : ShortKernel) (r : Result Report Trouble) → IsOneReading file (Ok k)
-      → Prepared (IsCalled (source_of k) (bind (source_of k).heads asked.kernel asked.items) []) r
-      → Prepared (IsOneAnswer asked (Whole file)) r
-  called_so k r one p = prepared_as _ _ r (λ a c. called k a one c) p
+    is_answer : (held : List ℕ → Held) (arrays : List (Option Array)) → AreRead held (array_files asked) arrays
+        → Ends held (bound arrays) → IsAnswer held (to_bind asked (source_of k)) (bound arrays)
+    is_answer held arrays read ends =
+        record { comes = record { reads = arrays; are_read = read; is = refl }; ends = ends }
 
-  pub refused_alone : (r : Refusal) → IsOneReading file (Err r) → IsOneAnswer asked (Whole file) (answer.Refused r)
-  refused_alone r one = record {
-    answers = (refl, refl, (Err r, (Err r, one.gives, refl), (refl, refl)));
-    alone = λ rest other h. (followed (Err r) rest other one (h.2)).1;
+    called : (held : List ℕ → Held) (a : Answer) → CallsTo asked (source_of k) held a
+        → LeadsTo asked (Whole file) held a
+    called held a c = record {
+      arrays = c.arrays;
+      are_read = c.are_read;
+      answer = (Ok (source_of k), (Ok k, one.gives, refl), c.called);
+      alone = alone;
+    }
+      where
+        same : (others : List (Option Array))
+            → (others ≡ c.arrays) ⊎ (Stands asked (Whole file) → AreTold held (array_files asked))
+            → AreRead held (array_files asked) others → Ends held (bound others) → bound others ≡ bound c.arrays
+        same others (inl is) read ends = ap bound is
+        same others (inr told) read ends =
+            c.one (told (source_of k, (Ok k, one.gives, refl))) (bound others) (bound c.arrays)
+            (is_answer held others read ends) (is_answer held c.arrays c.are_read (c.called.0))
+
+        alone : (others : List (Option Array)) (other : Answer)
+            → (others ≡ c.arrays) ⊎ (Stands asked (Whole file) → AreTold held (array_files asked))
+            → AreRead held (array_files asked) others → IsRead asked held (Whole file) others other → other ≡ a
+        alone others other agree read h =
+            let f : IsCalled held (source_of k) (bound others) other = followed held (Ok k) others other one h in
+            f.1 ∙ ap (answer_of (source_of k)) (same others agree read (f.0)) ∙ sym (c.called.1)
+
+    pub called_so : (files : Filed) (r : Result Report Trouble) → Prepares (CallsTo asked (source_of k)) files r
+        → Prepares (LeadsTo asked (Whole file)) files r
+    called_so files r p =
+        prepared_as files.faults_before files.faults_after files.faults_before files.faults_after _ _ r (λ h. h)
+        (λ a c. called files.before a c) p
+
+  pub refused_alone : (held : List ℕ → Held) (r : Refusal) → IsOneReading file (Err r)
+      → LeadsTo asked (Whole file) held (answer.Refused r)
+  refused_alone held r one = record {
+    arrays = [];
+    are_read = tt;
+    answer = (Err r, (Err r, one.gives, refl), (refl, refl));
+    alone = λ others other agree read h. (followed held (Err r) others other one h).1;
   }

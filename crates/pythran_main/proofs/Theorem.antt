@@ -1,9 +1,9 @@
 -- The promises by status follow from how a command ended.
 use Rattle.std.proofs.Common.{◌≡◌, ℕ, ◌≤◌, ◌⊎◌, inl, inr, Bool, true, false, List, Some, None, Err, sym, subst, arith}
-use Rattle.pythran_main.specs.Answer.{Answer, Answers, Reaches}
+use Rattle.pythran_main.specs.Answer.{Answer, Answers, AreFilesTold, Reaches}
 use Rattle.pythran_main.specs.Answer as answer
 use Rattle.pythran_main.specs.Ending.{IsAnswered, Causes, IsTold, IsDone, Ends, status_of, status_at}
-use Rattle.pythran_main.specs.Loads.{Load, AreTold}
+use Rattle.pythran_main.specs.Loads.{Loaded}
 use Rattle.pythran_main.specs.Request.{Asked, request}
 use Rattle.pythran_main.specs.Steps.{Works, Tells, IsWorded, TellsOf}
 use Rattle.pythran_main.specs.Theorem.{Serves, IsComplete}
@@ -11,7 +11,6 @@ use Rattle.pythran_main.specs.World.{World, NoneRose}
 use Rattle.pythran_main.specs.declared.trouble.Trouble.{Trouble}
 use Rattle.pythran_main.specs.declared.trouble.Trouble.TheVariants.{NoRequest, Refused, RefusedItem, LoadFailed}
 use Rattle.pythran_main.specs.declared.trouble.Trouble.TheVariants.{WriteFailed, StoreFailed, Memory, TooLong}
-use Rattle.pythran_main.proofs.Loads.{agree}
 
 -- ---- a command's ending
 
@@ -72,9 +71,10 @@ module _ (words : List (List ℕ)) (w : World) where
   different : (asked : Asked) → request words ≡ None → request words ≡ Some asked → ⊥
   different asked none some = cc
 
-  -- what is told of the loaded files, where none of the counts rose
-  module _ (asked : Asked) (loads : List Load) (a : Answer) (asks : request words ≡ Some asked)
-      (told : AreTold w.files.before loads) (answers : Answers asked loads a) (none_rose : NoneRose w) where
+  -- what is told of the files, where none of the counts rose
+  module _ (asked : Asked) (loaded : Loaded) (a : Answer) (asks : request words ≡ Some asked)
+      (told : AreFilesTold asked w.files.before loaded.source) (answers : Answers asked w.files.before loaded a)
+      (none_rose : NoneRose w) where
     same_asked : (other : Asked) → request words ≡ Some other → other ≡ asked
     same_asked other h = cc
 
@@ -82,7 +82,7 @@ module _ (words : List (List ℕ)) (w : World) where
     one_answer b is =
         let P : Asked → Type 0 = λ x. Reaches x w.files.before b in
         let r : Reaches asked w.files.before b = subst P (same_asked is.asked is.asks) is.reaches in
-        r.alone loads a (agree w.files.before r.loads loads r.loaded told) answers
+        r.alone loaded a (inr told) answers
 
     served : (b : Answer) (s : ℕ) → IsAnswered words w.files.before b → Serves b w s → Serves a w s
     served b s is serves = let P : Answer → Type 0 = λ x. Serves x w s in subst P (sym (one_answer b is)) serves
@@ -104,5 +104,5 @@ module _ (words : List (List ℕ)) (w : World) where
     served_at s (inr (inr u)) = absurd (none_rose.error_output u.1.broke.rose)
 
   pub complete_at : (s : ℕ) → Ends words w s → IsComplete words w s
-  complete_at s ends asked loads a asks told answers none_rose =
-      served_at asked loads a asks told answers none_rose s ends
+  complete_at s ends asked loaded a asks told answers none_rose =
+      served_at asked loaded a asks told answers none_rose s ends

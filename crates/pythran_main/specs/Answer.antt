@@ -1,18 +1,23 @@
 -- What a request comes to, by the files that it loads: the source and what it stands for, the items, the outcome, the
 -- bytes.
-use Rattle.std.specs.Prelude.{◌≡◌, ℕ, Bool, if◌then◌else◌, List, [], ◌∷◌, map, Option, is_some, Some, Result, Ok, Err}
+use Rattle.std.specs.Prelude.{◌≡◌, ℕ, ℤ, ◌⊎◌, Bool, if◌then◌else◌, List, [], ◌∷◌, map, slice_get}
+use Rattle.std.specs.Prelude.{Option, is_some, Some, None, Result, Ok, Err}
 use Rattle.std.specs.List.{zip}
 use Rattle.krn_base.specs.declared.refusal.Refusal.{Refusal}
 use Rattle.view_places.specs.declared.shape.Array.{Array}
 use Rattle.eager_rules.specs.declared.outcome.Counts.{Counts}
 use Rattle.eager_rules.specs.declared.outcome.Outcome.{Outcome}
-use Rattle.call_items.specs.Binding.{BoundMeaning, bind}
-use Rattle.call_items.specs.declared.head.KernelHead.{KernelHead}
+use Rattle.call_binding.specs.Binding.{BoundMeaning, Binding, bind}
+use Rattle.call_binding.specs.Binding as binding
+use Rattle.call_binding.specs.Files.{AreRead, AreTold, IsTold}
+use Rattle.call_binding.specs.declared.head.KernelHead.{KernelHead}
+use Rattle.call_binding.specs.declared.head.Save as bound_save
 use Rattle.call_report.specs.Report.{report_of}
 use Rattle.call_report.specs.declared.head.BufferHead.{BufferHead}
 use Rattle.host_io.specs.Files.{Held}
+use Rattle.np_file.specs.Npy.{npy_text}
 use Rattle.pythran_main.specs.Kernel.{instance_of, outcome_on}
-use Rattle.pythran_main.specs.Loads.{Content, Whole, Longer, Load, AreLoaded, Agree}
+use Rattle.pythran_main.specs.Loads.{Content, Whole, Longer, Gives, Loaded}
 use Rattle.pythran_main.specs.Reading.{IsReading}
 use Rattle.pythran_main.specs.Request.{Asked}
 use Rattle.pythran_main.specs.Saves.{Save}
@@ -50,12 +55,28 @@ buffer_head (name, array) = record { name = name; kind = array.kind; shape = arr
 abbrev pub buffer_heads : List (List ℕ) → List Array → List BufferHead
 buffer_heads names arrays = map buffer_head (zip names arrays)
 
--- the report of a call
+-- the arrays that buffers hold in the end: each in the kind and the shape that it was given
+abbrev pub with_words : Array × List ℤ → Array
+with_words (array, words) = record { kind = array.kind; shape = array.shape; words = words }
+
+abbrev pub final_arrays : List Array → List (List ℤ) → List Array
+final_arrays arrays words = map with_words (zip arrays words)
+
+-- the array file of a buffer
+abbrev pub file_of : Option Array → List ℕ
+file_of None = []
+file_of (Some array) = npy_text array
+
+-- what is stored of these arrays for a saved buffer
+abbrev pub saved_of : List Array → bound_save.Save → Save
+saved_of arrays save = record { path = save.path; bytes = file_of (slice_get arrays save.buffer) }
+
+-- the report of a call, and the files of its saved buffers, also after a fault
 abbrev pub product_of : BoundMeaning → Run → Product
 product_of b run = record {
   output = report_of (buffer_heads b.names b.arrays) run.outcome run.counts;
   has_fault = is_some run.outcome.fault;
-  saves = [];
+  saves = map (saved_of (final_arrays b.arrays run.outcome.buffers)) b.saves;
 }
 
 -- ---- the sources of `run`
@@ -86,33 +107,63 @@ source_in (Err r) = Err r
 abbrev pub IsSource : Asked → List ℕ → Result Source Refusal → Type 0
 IsSource asked file found = (read : Result ShortKernel Refusal) × IsReading file read × (found ≡ source_in read)
 
--- ---- the steps of an answer, each by what is loaded after it
+-- ---- the steps of an answer, each by what is loaded for it
 
 -- a source has at most so many bytes
 abbrev pub source_limit : ℕ
 source_limit = 1048576
 
-abbrev pub IsCalled : Source → Result BoundMeaning ℕ → List Load → Answer → Type 0
-IsCalled source (Err n) loads a = (loads ≡ []) × (a ≡ RefusedItem n)
-IsCalled source (Ok b) loads a = (loads ≡ []) × (a ≡ Makes (product_of b (source.run b)))
+-- what is bound for a request of a source
+abbrev pub to_bind : Asked → Source → binding.Asked
+to_bind asked source = binding.asked source.heads asked.kernel asked.items
 
-abbrev pub IsFollowed : Asked → Result Source Refusal → List Load → Answer → Type 0
-IsFollowed asked (Err r) loads a = (loads ≡ []) × (a ≡ Refused r)
-IsFollowed asked (Ok source) loads a = IsCalled source (bind source.heads asked.kernel asked.items) loads a
+-- the array files that the words of a request name, in word order
+abbrev pub array_files : Asked → List (List ℕ)
+array_files asked = binding.paths (binding.asked [] asked.kernel asked.items)
 
-abbrev pub IsRead : Asked → Content → List Load → Answer → Type 0
-IsRead asked Longer loads a = (loads ≡ []) × (a ≡ TooLong)
-IsRead asked (Whole file) loads a = (found : Result Source Refusal) × IsSource asked file found
-    × IsFollowed asked found loads a
+-- the answer of a binding; a file that is to be read and isn't is one that is too long
+abbrev pub answer_of : Source → Binding → Answer
+answer_of source (binding.Call b) = Makes (product_of b (source.run b))
+answer_of source (binding.Refused n) = RefusedItem n
+answer_of source (binding.Asks path) = TooLong
 
--- a request comes to this answer with these loads, and no more are needed
-abbrev pub Answers : Asked → List Load → Answer → Type 0
-Answers asked [] a = ⊥
-Answers asked (load ∷ rest) a = (load.name ≡ asked.source) × (load.most ≡ source_limit) × IsRead asked load.gave rest a
+abbrev pub IsCalled : (List ℕ → Held) → Source → Binding → Answer → Type 0
+IsCalled held source bound a = binding.Ends held bound × (a ≡ answer_of source bound)
 
--- With what the names hold, a request comes to this answer, and to no other with loads that give the same.
+abbrev pub IsFollowed : Asked → (List ℕ → Held) → Result Source Refusal → List (Option Array) → Answer → Type 0
+IsFollowed asked held (Err r) arrays a = (arrays ≡ []) × (a ≡ Refused r)
+IsFollowed asked held (Ok source) arrays a =
+    IsCalled held source (bind source.heads asked.kernel asked.items arrays) a
+
+abbrev pub IsRead : Asked → (List ℕ → Held) → Content → List (Option Array) → Answer → Type 0
+IsRead asked held Longer arrays a = (arrays ≡ []) × (a ≡ TooLong)
+IsRead asked held (Whole file) arrays a = (found : Result Source Refusal) × IsSource asked file found
+    × IsFollowed asked held found arrays a
+
+-- With what the names hold, this may be loaded for a request, and leads to this answer.
+pub record Answers (asked : Asked) (held : List ℕ → Held) (loaded : Loaded) (a : Answer) : Type 0 where
+  pub source : Gives (held asked.source) source_limit loaded.source
+  pub arrays : AreRead held (array_files asked) loaded.arrays
+  pub answer : IsRead asked held loaded.source loaded.arrays a
+
+-- a source isn't refused
+abbrev pub Stands : Asked → Content → Type 0
+Stands asked Longer = ⊥
+Stands asked (Whole file) = (source : Source) × IsSource asked file (Ok source)
+
+-- It is told what the files of a request hold: its source, and its array files where the source stands.
+pub record AreFilesTold (asked : Asked) (held : List ℕ → Held) (gave : Content) : Type 0 where
+  pub source : IsTold (held asked.source)
+  pub arrays : Stands asked gave → AreTold held (array_files asked)
+
+-- the same is loaded, or the files are told
+abbrev pub Agree : Asked → (List ℕ → Held) → Loaded → Loaded → Type 0
+Agree asked held loaded others = (others ≡ loaded) ⊎ AreFilesTold asked held others.source
+
+-- With what the names hold, a request comes to this answer, and to no other where the same is loaded or the files are
+-- told.
 pub record Reaches (asked : Asked) (held : List ℕ → Held) (a : Answer) : Type 0 where
-  pub loads : List Load
-  pub loaded : AreLoaded held loads
-  pub answers : Answers asked loads a
-  pub alone : (others : List Load) (other : Answer) → Agree loads others → Answers asked others other → other ≡ a
+  pub loaded : Loaded
+  pub answers : Answers asked held loaded a
+  pub alone : (others : Loaded) (other : Answer) → Agree asked held loaded others → Answers asked held others other
+      → other ≡ a

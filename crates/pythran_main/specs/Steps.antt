@@ -1,10 +1,19 @@
 -- What the private functions between the words and the status promise each other.
-use Rattle.std.specs.Prelude.{◌≡◌, ℕ, ◌⊎◌, Bool, List, [], ◌∷◌, map, Result, Ok, Err, string_bytes}
+use Rattle.std.specs.Prelude.{◌≡◌, ℕ, ℤ, ◌⊎◌, Bool, List, map, length, Option, Result, Ok, Err, string_bytes}
+use Rattle.std.specs.List.{All}
+use Rattle.call_binding.specs.Binding.{bind, HasOneAnswer}
+use Rattle.call_binding.specs.Files.{AreRead, AreTold}
+use Rattle.call_binding.specs.declared.head.BindStop.{BindStop}
+use Rattle.call_binding.specs.declared.head.BindStop.TheVariants as stop
+use Rattle.eager_rules.specs.Fits.{IsFilled}
 use Rattle.host_io.specs.Counts.{Rose}
-use Rattle.pythran_main.specs.Answer.{Answer, Product, Answers, Reaches, source_limit}
+use Rattle.host_io.specs.Files.{Held}
+use Rattle.view_places.specs.declared.shape.Array.{Array}
+use Rattle.pythran_main.specs.Answer.{Answer, Product, Source, source_limit, to_bind, array_files}
+use Rattle.pythran_main.specs.Answer.{IsCalled, IsRead, Stands, final_arrays}
 use Rattle.pythran_main.specs.Answer as answer
 use Rattle.pythran_main.specs.Ending.{IsAnswered, Causes, status_of, text_of}
-use Rattle.pythran_main.specs.Loads.{Load, Content, IsLonger}
+use Rattle.pythran_main.specs.Loads.{Content, IsLonger}
 use Rattle.pythran_main.specs.Request.{Asked}
 use Rattle.pythran_main.specs.Saves.{Save}
 use Rattle.pythran_main.specs.World.{Written, Filed, Gained, Broke, AreKept, AreStored, BrokeOff}
@@ -21,26 +30,45 @@ save_of s = record { path = string_bytes s.path; bytes = s.bytes }
 abbrev pub product : Report → Product
 product r = record { output = r.text; has_fault = r.has_fault; saves = map save_of r.saves }
 
--- the answer that was prepared, where there is one
-abbrev pub Prepared : (Answer → Type 0) → Result Report Trouble → Type 0
-Prepared P (Ok r) = P (answer.Makes (product r))
-Prepared P (Err NoRequest) = ⊥
-Prepared P (Err (Refused r)) = P (answer.Refused r)
-Prepared P (Err (RefusedItem n)) = P (answer.RefusedItem n)
-Prepared P (Err LoadFailed) = ⊥
-Prepared P (Err WriteFailed) = ⊥
-Prepared P (Err StoreFailed) = ⊥
-Prepared P (Err Memory) = Unit {0}
-Prepared P (Err TooLong) = P answer.TooLong
+-- the trouble where items make no call
+abbrev pub stopped : BindStop → Trouble
+stopped (stop.Item n) = RefusedItem n
+stopped stop.LoadFailed = LoadFailed
+stopped stop.TooLong = TooLong
+stopped stop.Memory = Memory
 
--- the load of a request's source
-abbrev pub source_load : Asked → Content → Load
-source_load asked gave = record { name = asked.source; most = source_limit; gave = gave }
+-- Buffers have as many words in the end as they had, each of its kind.
+pub record KeepsBuffers (arrays : List Array) (words : List (List ℤ)) : Type 0 where
+  pub count : length words ≡ length arrays
+  pub filled : All IsFilled (final_arrays arrays words)
 
--- what follows from a source's load comes to this answer, and to no other
-pub record IsOneAnswer (asked : Asked) (gave : Content) (a : Answer) : Type 0 where
-  pub answers : Answers asked (source_load asked gave ∷ []) a
-  pub alone : (rest : List Load) (other : Answer) → Answers asked (source_load asked gave ∷ rest) other → other ≡ a
+-- the answer that was prepared, a failed load, by the counts of faults before and after, or want of memory
+abbrev pub Prepared : ℕ → ℕ → (Answer → Type 0) → Result Report Trouble → Type 0
+Prepared before after P (Ok r) = P (answer.Makes (product r))
+Prepared before after P (Err NoRequest) = ⊥
+Prepared before after P (Err (Refused r)) = P (answer.Refused r)
+Prepared before after P (Err (RefusedItem n)) = P (answer.RefusedItem n)
+Prepared before after P (Err LoadFailed) = Rose before after
+Prepared before after P (Err WriteFailed) = ⊥
+Prepared before after P (Err StoreFailed) = ⊥
+Prepared before after P (Err Memory) = Unit {0}
+Prepared before after P (Err TooLong) = P answer.TooLong
+
+-- A call of a source comes to this answer, and to no other where its array files are told.
+pub record CallsTo (asked : Asked) (source : Source) (held : List ℕ → Held) (a : Answer) : Type 0 where
+  pub arrays : List (Option Array)
+  pub are_read : AreRead held (array_files asked) arrays
+  pub called : IsCalled held source (bind source.heads asked.kernel asked.items arrays) a
+  pub one : AreTold held (array_files asked) → HasOneAnswer held (to_bind asked source)
+
+-- What a source's load gave leads to this answer, and to no other with the same arrays, or where the files are told.
+pub record LeadsTo (asked : Asked) (gave : Content) (held : List ℕ → Held) (a : Answer) : Type 0 where
+  pub arrays : List (Option Array)
+  pub are_read : AreRead held (array_files asked) arrays
+  pub answer : IsRead asked held gave arrays a
+  pub alone : (others : List (Option Array)) (other : Answer)
+      → (others ≡ arrays) ⊎ (Stands asked gave → AreTold held (array_files asked))
+      → AreRead held (array_files asked) others → IsRead asked held gave others other → other ≡ a
 
 -- why a request's source was not loaded
 abbrev pub IsUnloaded : Filed → List ℕ → Trouble → Type 0
@@ -50,9 +78,8 @@ IsUnloaded files path Memory = Unit {0}
 IsUnloaded files path _ = ⊥
 
 -- the answer that the files give, or a failed load, or want of memory
-abbrev pub Prepares : Asked → Filed → Result Report Trouble → Type 0
-Prepares asked files (Err LoadFailed) = Rose files.faults_before files.faults_after
-Prepares asked files r = Prepared (Reaches asked files.before) r
+abbrev pub Prepares : (P : (List ℕ → Held) → Answer → Type 0) → Filed → Result Report Trouble → Type 0
+Prepares P files r = Prepared files.faults_before files.faults_after (P files.before) r
 
 -- the whole output and all files, or a first part of that
 abbrev pub Delivers : Product → Filed → Written → Result Bool Trouble → Type 0

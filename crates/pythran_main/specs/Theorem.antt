@@ -1,9 +1,9 @@
 -- What the command promises beside the cause of each status.
 use Rattle.std.specs.Prelude.{◌≡◌, ℕ, ◌⊎◌, List, Some, None}
 use Rattle.host_io.specs.Counts.{Rose}
-use Rattle.pythran_main.specs.Answer.{Answer, Refused, RefusedItem, TooLong, Makes, Answers}
+use Rattle.pythran_main.specs.Answer.{Answer, Refused, RefusedItem, TooLong, Makes, Answers, AreFilesTold}
 use Rattle.pythran_main.specs.Ending.{IsTold, IsUnheard, status_at, text_of}
-use Rattle.pythran_main.specs.Loads.{Load, AreTold}
+use Rattle.pythran_main.specs.Loads.{Loaded}
 use Rattle.pythran_main.specs.Request.{Asked, request}
 use Rattle.pythran_main.specs.World.{World, Gained, AreStored, NoneRose}
 use Rattle.pythran_main.specs.declared.trouble.Trouble.TheVariants as trouble
@@ -26,9 +26,10 @@ Serves (RefusedItem n) w status = (status ≡ 4) × Gained w.err (text_of (troub
 Serves TooLong w status = (status ≡ 7) × Gained w.err (text_of trouble.TooLong)
 Serves (Makes p) w status = (status ≡ status_at p.has_fault) × Gained w.out p.output × AreStored w.files p.saves
 
--- Where it is told what the loaded names hold, and no count of faults rose, the command serves the answer that its
--- words come to, or memory was wanting.
+-- Where it is told what the files hold, and no count of faults rose, the command serves the answer that its words and
+-- the files come to, or memory was wanting.
 abbrev pub IsComplete : List (List ℕ) → World → ℕ → Type 0
 IsComplete words w status =
-    (asked : Asked) (loads : List Load) (a : Answer) → request words ≡ Some asked → AreTold w.files.before loads
-    → Answers asked loads a → NoneRose w → Serves a w status ⊎ (status ≡ 6)
+    (asked : Asked) (loaded : Loaded) (a : Answer) → request words ≡ Some asked
+    → AreFilesTold asked w.files.before loaded.source → Answers asked w.files.before loaded a → NoneRose w
+    → Serves a w status ⊎ (status ≡ 6)

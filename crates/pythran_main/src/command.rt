@@ -66,8 +66,11 @@ fn end<F: Files, O: Sink, E: Sink>(
 /// on `err`.
 ///
 /// The exit status is 0 for a report without a fault and 1 for one with a fault; 2 where the words are no request; 3
-/// where the module is refused; 4 where an item is; 5 where a load or a write failed; 6 where memory was wanting; 7
-/// where the module is longer than 1,048,576 bytes.
+/// where the module is refused; 4 where an item is; 5 where a load, a write or a store failed; 6 where memory was
+/// wanting; 7 where the module is longer than 1,048,576 bytes, or an array file longer than 34,000,000.
+///
+/// Files are loaded before anything is written: the module, and then the array files of the items in word order. The
+/// saved buffers are stored once the whole report is out, in word order, also after a fault of the kernel.
 pub fn pythran<R: Threads + Sync, F: Files, O: Sink, E: Sink, G: Gate + Sync>(
     _rt: &R,
     alloc: Global,

@@ -1,5 +1,5 @@
 ghost use Rattle.std.specs.Prelude.{◌<◌, ◌≤◌, IfOk, IfErr};
-ghost use Rattle.pythran_main.specs.Answer.{source_limit};
+ghost use Rattle.pythran_main.specs.Answer.{source_limit, Reaches};
 ghost use Rattle.pythran_main.specs.Loads.{Gives, Whole};
 ghost use Rattle.pythran_main.specs.Request.{meaning};
 ghost use Rattle.pythran_main.specs.Steps.{IsUnloaded, Prepares};
@@ -37,11 +37,11 @@ pub fn prepare<F: Files>(
     files: &mut F,
 ) -> Result<Report, Trouble>
     ensures count { F.faults files.old ≤ F.faults files.new }
-    ensures prepared { Prepares (meaning request.now) (files_of F.Files files.old files.new) result }
+    ensures prepared { Prepares (Reaches (meaning request.now)) (files_of F.Files files.old files.new) result }
     ensures kept { AreKept (files_of F.Files files.old files.new) }
 {
     match load_source(alloc, files, request.module) {
-        Ok(file) => answer_request(alloc, file.as_slice(), request),
+        Ok(file) => answer_request(alloc, file.as_slice(), request, files),
         Err(trouble) => Err(trouble),
     }
 }

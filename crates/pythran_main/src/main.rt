@@ -10,6 +10,8 @@ ghost use Rattle.std.specs.Vec.Iter.{into_iter_items};
 mod answer;
 mod command;
 mod deliver;
+#[cfg(test)]
+mod file_tests;
 mod kernel;
 mod load;
 mod module_form;

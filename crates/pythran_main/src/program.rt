@@ -1,8 +1,11 @@
 ghost use Rattle.std.specs.Prelude.{◌≡◌, IfOk, map, true};
+ghost use Rattle.std.specs.List.{All};
+ghost use Rattle.eager_rules.specs.Fits.{IsFilled};
 ghost use Rattle.eager_rules.specs.Small.{bodies_small};
 ghost use Rattle.eager_rules.specs.State.{bound_to};
 ghost use Rattle.pythran_main.specs.Kernel as spec;
 ghost use Rattle.pythran_main.specs.Kernel.{outcome_on};
+ghost use Rattle.pythran_main.specs.Steps.{KeepsBuffers};
 
 use crate::kernel::ShortKernel;
 use eager_rules::{Call, Core, Instance, MapOp, Oper, Outcome, Program, eager};
@@ -63,7 +66,9 @@ fn program_of(alloc: Global, kernel: &ShortKernel) -> Result<Program, AllocError
 
 /// What calling the kernel gives, one whole-array operation after another.
 pub fn run(alloc: Global, kernel: &ShortKernel, call: &Call) -> Result<Outcome, NoMemory>
-    ensures { IfOk result (λ outcome. outcome ≡
+    requires { All IsFilled call.now.buffers }
+    ensures kept { IfOk result (λ outcome. KeepsBuffers call.now.buffers outcome.buffers) }
+    ensures outcome { IfOk result (λ outcome. outcome ≡
         outcome_on (spec.instance_of kernel.now) call.now.buffers (map bound_to call.now.args)) }
 {
     let program = program_of(alloc, kernel)?;

@@ -1,3 +1,4 @@
+use call_binding::BindStop;
 use krn_base::{NoMemory, Refusal};
 use std::alloc::AllocError;
 
@@ -41,6 +42,22 @@ impl From<NoMemory> for Trouble {
 
     fn from(_error: NoMemory) -> Trouble {
         Trouble::Memory
+    }
+}
+
+impl From<BindStop> for Trouble {
+    ghost use Rattle.std.specs.Prelude.{◌≡◌};
+    ghost use Rattle.pythran_main.specs.Steps.{stopped};
+
+    ghost from_gives = { λ stop trouble. trouble ≡ stopped stop };
+
+    fn from(stop: BindStop) -> Trouble {
+        match stop {
+            BindStop::Item(number) => Trouble::RefusedItem(number),
+            BindStop::LoadFailed => Trouble::LoadFailed,
+            BindStop::TooLong => Trouble::TooLong,
+            BindStop::Memory => Trouble::Memory,
+        }
     }
 }
 

@@ -1,15 +1,18 @@
 use Rattle.std.proofs.Common.{subst}
 use Rattle.pythran_main.specs.Reading.{IsOneReading}
 use Rattle.pythran_main.specs.Request.{meaning}
+use Rattle.pythran_main.specs.World.{files_of}
 use Rattle.pythran_main.proofs.Loads.{called_so, refused_alone}
 use Rattle.pythran_main.proofs.answer.answer_request.Goals as goal
 
-pub returns-in-Ok : goal.returns-in-Ok
-returns-in-Ok c =
-    called_so (meaning c.args.request.now) c.args.file.now c.in-Ok.kernel c.answer_kernel.result
-    (subst (IsOneReading c.args.file.now) c.in-Ok.is c.in_ok-kernel.ensures) c.answer_kernel.ensures
+pub returns-in-Ok-clause-prepared : goal.returns-in-Ok-clause-prepared
+returns-in-Ok-clause-prepared g c =
+    called_so (meaning c.args.request.now) c.args.file.now c.in-Ok.kernel
+    (subst (IsOneReading c.args.file.now) c.in-Ok.is c.in_ok-kernel.ensures)
+    (files_of g.F.Files c.args.files.now c.answer_kernel.new.files) c.answer_kernel.result
+    c.answer_kernel.ensures.prepared
 
-pub returns-in-Err : goal.returns-in-Err
-returns-in-Err c =
-    refused_alone (meaning c.args.request.now) c.args.file.now c.in-Err.refusal
+pub returns-in-Err-clause-prepared : goal.returns-in-Err-clause-prepared
+returns-in-Err-clause-prepared g c =
+    refused_alone (meaning c.args.request.now) c.args.file.now (g.F.Files.held c.args.files.now) c.in-Err.refusal
     (subst (IsOneReading c.args.file.now) c.in-Err.is c.in_ok-kernel.ensures)
