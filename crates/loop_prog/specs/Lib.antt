@@ -4,3 +4,6 @@ pub mod Works
 pub mod Guards
 pub mod Statements
 pub mod Serial
+pub mod Paths
+pub mod Conditions
+pub mod Check

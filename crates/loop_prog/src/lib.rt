@@ -3,7 +3,10 @@
 
 mod guard;
 mod invalid;
+mod kept;
+mod paths;
 mod program;
+mod registers;
 
 pub use array_ops::Fill;
 pub use eager_rules::{CoreSub, Counts, Oper, WordOp};
