@@ -1,0 +1,3 @@
+pub mod Flaws
+pub mod Blocks
+pub mod BlockWalks

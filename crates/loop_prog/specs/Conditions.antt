@@ -132,14 +132,14 @@ push_kind kernel (step.Bin op) (b ∷ a ∷ stack) = with_kind (bin_kind op a b)
 push_kind kernel step.Select (b ∷ a ∷ mask ∷ stack) = with_kind (select_kind mask a b) stack
 push_kind kernel _ stack = Short
 
-abbrev pub push_kinds : Kernel → List TemplateStep → Stack → Stack
-push_kinds kernel [] stack = stack
-push_kinds kernel (s ∷ steps) (Kinds stack) = push_kinds kernel steps (push_kind kernel s stack)
-push_kinds kernel (s ∷ steps) Wrong = Wrong
-push_kinds kernel (s ∷ steps) Short = Short
+abbrev pub push_kinds : Kernel → Stack → List TemplateStep → Stack
+push_kinds kernel Wrong steps = Wrong
+push_kinds kernel Short steps = Short
+push_kinds kernel (Kinds stack) [] = Kinds stack
+push_kinds kernel (Kinds stack) (s ∷ steps) = push_kinds kernel (push_kind kernel s stack) steps
 
 abbrev pub template_stack : Kernel → List TemplateStep → Stack
-template_stack kernel steps = push_kinds kernel steps (Kinds [])
+template_stack kernel steps = push_kinds kernel (Kinds []) steps
 
 -- A template whose value a test of kinds takes. One that doesn't make exactly one value is no matter of kinds.
 abbrev pub stack_takes : (Kind → Bool) → Stack → Bool

@@ -7,3 +7,4 @@ pub mod Serial
 pub mod Paths
 pub mod Conditions
 pub mod Check
+pub mod Judging

@@ -1,3 +1,7 @@
+ghost use Rattle.std.specs.Prelude.{◌≡◌};
+
+use krn_base::NoMemory;
+
 /// A rule for loop programs, in the order in which they are tested at one statement.
 #[derive(Clone, Copy, Debug, PartialEq, Eq)]
 pub enum InvalidRule {
@@ -33,4 +37,14 @@ pub enum InvalidRule {
 pub enum CheckStop {
     Invalid { at: u32, rule: InvalidRule },
     Memory,
+}
+
+impl From<NoMemory> for CheckStop {
+    ghost use Rattle.loop_prog.specs.declared.invalid.CheckStop.TheVariants.{Memory};
+
+    ghost from_gives = { λ _ stop. stop ≡ Memory };
+
+    fn from(_none: NoMemory) -> CheckStop {
+        CheckStop::Memory
+    }
 }

@@ -1,5 +1,5 @@
 // The registers that a statement reads, binds and names, in order.
-ghost use Rattle.std.specs.Prelude.{◌≡◌, ◌++◌, ◌∷◌, [], IfOk, ℤ, map};
+ghost use Rattle.std.specs.Prelude.{◌≡◌, ◌++◌, ◌∷◌, [], IfOk, map};
 ghost use Rattle.std.specs.List.{flat_map};
 ghost use Rattle.eager_rules.specs.Works.{given_part, sub_operands};
 ghost use Rattle.loop_prog.specs.Conditions.{axis_regs, dims_regs, form_regs, guard_regs, named_regs, part_regs};
@@ -202,17 +202,16 @@ fn add_form(form: &Form, regs: &mut Seq<Reg>) -> Result<(), NoMemory>
     ensures { IfOk result (λ u. regs.new ≡ regs.old ++ form_regs form.now) }
 {
     for term in form.terms.as_slice() {
-        let (_coefficient, symbol) = *term;
-        regs.push(symbol_reg(symbol))?;
+        regs.push(symbol_reg(*term))?;
     }
     Ok(())
 }
 
-/// The register of a symbol.
-fn symbol_reg(symbol: Symbol) -> Reg
-    ensures { (z : ℤ) → result ≡ symbol_reg (z, symbol) }
+/// The register of a term's symbol.
+fn symbol_reg(term: (i64, Symbol)) -> Reg
+    ensures { result ≡ symbol_reg term }
 {
-    match symbol {
+    match term.1 {
         Symbol::Reg(r) => Reg::Word(r),
         Symbol::Extent(v, _) => Reg::View(v),
     }
