@@ -14,7 +14,7 @@ use Rattle.loop_prog.specs.declared.program.Kernel.{Kernel}
 use Rattle.loop_prog.specs.declared.program.Statement.{Statement, out-Statement}
 use Rattle.loop_prog.specs.declared.program.Statement.TheOpen as l
 use Rattle.loop_prog.specs.declared.program.Statement.TheFolds.{map-Statement, para-roll-Statement}
-use Rattle.loop_prog.specs.declared.program.Statement.TheViews.{roll-Statement, roll_out-Statement}
+use Rattle.loop_prog.specs.declared.program.Statement.TheViews.{roll-Statement, roll-out-Statement}
 
 same_site : {A B : Type 0} (f : A → B) (site : Site) (rest : List A) → before_rest site (map f rest) ≡ before_rest site rest
 same_site f site [] = refl
@@ -84,4 +84,4 @@ pub findings_are : (kernel : Kernel) (s : Statement) (site : Site) (paths : Path
 findings_are kernel s site paths =
     subst (λ (x : Statement). findings kernel x site paths ≡
     kept_at kernel site paths (out-Statement s) ∷ inner_by kernel (out-Statement s) site paths)
-    (roll_out-Statement s) (found_rolled kernel (out-Statement s) site paths)
+    (roll-out-Statement s) (found_rolled kernel (out-Statement s) site paths)

@@ -1,10 +1,10 @@
 // The walk over the statements of a kernel, with the first one that breaks a rule.
-ghost use Rattle.std.specs.Prelude.{◌≡◌, ◌<◌, ◌∷◌, [], IfOk, map, true};
+ghost use Rattle.std.specs.Prelude.{◌≡◌, ◌<◌, ◌++◌, ◌∷◌, [], IfOk, map, true};
 ghost use Rattle.std.specs.List.{list_all};
 ghost use Rattle.loop_prog.specs.Check.{block_findings, deeper, findings, kept_at};
 ghost use Rattle.loop_prog.specs.Check.{nesting_fits, returns_fit, with_findings};
 ghost use Rattle.loop_prog.specs.Conditions.{is_there};
-ghost use Rattle.loop_prog.specs.Judging.{Judged, inner_by, placed};
+ghost use Rattle.loop_prog.specs.Judging.{Judged, block_by, inner_by, placed};
 ghost use Rattle.loop_prog.specs.Paths.{all_assigned, is_assigned};
 ghost use Rattle.loop_prog.specs.declared.program.Statement.{out-Statement};
 
@@ -185,6 +185,28 @@ pub fn inspect_block(
     Ok(())
 }
 
+/// Both parts of an `If`.
+#[cycle(inspect)]
+fn inspect_parts(
+    yes: &[Statement],
+    no: &[Statement],
+    kernel: &Kernel,
+    site: Site,
+    alloc: Global,
+    paths: &Paths,
+    number: &mut u32,
+) -> Result<(), CheckStop>
+    ensures { Judged result number.old number.new
+        (block_by kernel.now yes.now site paths.now ++ block_by kernel.now no.now site paths.now) }
+{
+    let first = copied(paths)?;
+    if let Err(stop) = inspect_block(yes, kernel, site, alloc, first, number) {
+        return Err(stop);
+    }
+    let second = copied(paths)?;
+    inspect_block(no, kernel, site, alloc, second, number)
+}
+
 /// The blocks of a statement.
 #[cycle(inspect)]
 fn inspect_inner(
@@ -199,15 +221,15 @@ fn inspect_inner(
     ensures { Judged result number.old number.new (inner_by kernel.now (out-Statement statement.now) site paths.now) }
 {
     match statement {
-        Statement::If { yes, no, .. } => {
-            let first = copied(paths)?;
-            let inner = deeper(site, site.ends);
-            if let Err(stop) = inspect_block(yes.as_slice(), kernel, inner, alloc, first, number) {
-                return Err(stop);
-            }
-            let second = copied(paths)?;
-            inspect_block(no.as_slice(), kernel, inner, alloc, second, number)
-        }
+        Statement::If { yes, no, .. } => inspect_parts(
+            yes.as_slice(),
+            no.as_slice(),
+            kernel,
+            deeper(site, site.ends),
+            alloc,
+            paths,
+            number,
+        ),
         Statement::For { var, body, .. } => {
             let start = body_start(*var, body.as_slice(), alloc, paths)?;
             inspect_block(

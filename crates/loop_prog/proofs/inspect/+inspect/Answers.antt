@@ -1,10 +1,10 @@
 use Rattle.std.proofs.Common.{arith, rules, ◌≡◌, ◌∙◌, ap, sym, subst, ℕ, ◌+◌, ◌<◌, ◌≤◌, List, [], ◌∷◌, ◌++◌, length, drop, Err}
 use Rattle.loop_prog.specs.Judging.{Judged, inner_by}
-use Rattle.loop_prog.specs.Check.{kept_at}
+use Rattle.loop_prog.specs.Check.{first_flaw, kept_at}
 use Rattle.loop_prog.specs.declared.program.Statement.{out-Statement}
 use Rattle.loop_prog.proofs.BlockWalks.{block_goes, block_stops, entry_goes, entry_stops}
 use Rattle.loop_prog.proofs.Flaws.{judged_stops, judged_then}
-use Rattle.std.proofs.Common.{◌-◌, nat_eq, length-drop, slice_index_or}
+use Rattle.std.proofs.Common.{◌-◌, nat_eq, length-drop, slice_index_or, None}
 use Rattle.std.proofs.lemmas.List.{drop_more}
 use Rattle.loop_prog.specs.Judging.{Left, block_by, placed}
 use Rattle.loop_prog.specs.Paths.{flow}
@@ -65,8 +65,25 @@ inspect_block-loop-statement-preserved t c =
           c.args.number.now all) (sym c.in_ok-flow.ensures) next,
     )
 
-pub inspect_inner-returns-in-Err : goal.inspect_inner-returns-in-Err
-inspect_inner-returns-in-Err t c = ?
+pub inspect_parts-returns-in-Err : goal.inspect_parts-returns-in-Err
+inspect_parts-returns-in-Err t c =
+    judged_stops c.in-Err.stop c.args.number.now c.inspect_block.new.number c.inspect_block.new.number
+    (block_by c.args.kernel.now c.args.yes.now c.args.site c.args.paths.now)
+    (block_by c.args.kernel.now c.args.no.now c.args.site c.args.paths.now)
+    (subst (λ (p : Paths). Judged (Err c.in-Err.stop) c.args.number.now c.inspect_block.new.number
+    (block_by c.args.kernel.now c.args.yes.now c.args.site p)) c.in_ok-first.ensures c.in-Err.ensures)
 
-pub inspect_inner-returns-in_ok-second-in-If : goal.inspect_inner-returns-in_ok-second-in-If
-inspect_inner-returns-in_ok-second-in-If t c = ?
+pub inspect_parts-returns : goal.inspect_parts-returns
+inspect_parts-returns t c =
+    let parts : List Kept = block_by c.args.kernel.now c.args.yes.now c.args.site c.args.paths.now in
+    let first : c.in_ok-first.first ≡ c.args.paths.now = c.in_ok-first.ensures in
+    let number : c.inspect_block.new.number ≡ c.args.number.now + length parts =
+    subst (λ (p : Paths). c.inspect_block.new.number ≡ c.args.number.now + length
+    (block_by c.args.kernel.now c.args.yes.now c.args.site p)) first c.in_default.ensures.0 in
+    let none : first_flaw c.args.number.now parts ≡ None =
+    subst (λ (p : Paths). first_flaw c.args.number.now
+    (block_by c.args.kernel.now c.args.yes.now c.args.site p) ≡ None) first c.in_default.ensures.1 in
+    judged_then c.inspect_block-2.result c.args.number.now c.inspect_block.new.number c.inspect_block-2.new.number
+    parts (block_by c.args.kernel.now c.args.no.now c.args.site c.args.paths.now) number none
+    (subst (λ (p : Paths). Judged c.inspect_block-2.result c.inspect_block.new.number c.inspect_block-2.new.number
+    (block_by c.args.kernel.now c.args.no.now c.args.site p)) c.in_ok-second.ensures c.inspect_block-2.ensures)
