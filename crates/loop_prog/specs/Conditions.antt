@@ -157,6 +157,10 @@ abbrev pub may_join : Join → Kind → Kind → Bool
 may_join join Int64 value = true
 may_join join Boolean value = not (is_sum join) && same_kind value Boolean
 
+-- a template whose join a register of a kind takes
+unfoldable pub fold_takes : Join → Kind → Stack → Bool
+fold_takes join register stack = stack_takes (may_join join register) stack
+
 abbrev pub is_count : Fill → Bool
 is_count fills.Count = true
 is_count _ = false
@@ -173,7 +177,7 @@ kinds_fit kernel (l.Fresh to dims fill at) = not (is_count fill) || same_kind (v
 kinds_fit kernel (l.Nest to template at) =
     stack_takes (may_store (view_type kernel to).0) (template_stack kernel template.steps)
 kinds_fit kernel (l.Fold to join template at) =
-    stack_takes (may_join join (word_kind kernel to)) (template_stack kernel template.steps)
+    fold_takes join (word_kind kernel to) (template_stack kernel template.steps)
 kinds_fit kernel (l.If cond part other) = same_kind (oper_kind kernel cond) Boolean
 kinds_fit kernel (l.For var lo hi by at body) = same_kind (word_kind kernel var) Int64
 kinds_fit kernel (l.ParFor var lo hi by at guard reductions privates body) = same_kind (word_kind kernel var) Int64

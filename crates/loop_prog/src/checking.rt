@@ -29,7 +29,7 @@ fn check_kernel(
     let Some(first) = body.first() else {
         return judge(own, number);
     };
-    let kept = kept_at(first, kernel, placed(whole, body.len() == 1), alloc, &start)?;
+    let kept = kept_at(first, kernel, placed(whole, 1 == body.len()), alloc, &start)?;
     if let Some(rule) = first_broken(both_keep(own, kept)) {
         return Err(CheckStop::Invalid { at: *number, rule });
     }

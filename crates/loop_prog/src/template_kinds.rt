@@ -1,7 +1,7 @@
 // The kinds of a template's values, and of what each statement reads and binds.
 ghost use Rattle.std.specs.Prelude.{◌≡◌, ◌∷◌, [], IfOk, List, Some, None, reverse};
 ghost use Rattle.krn_base.specs.declared.kind.Kind.{Kind as AnyKind};
-ghost use Rattle.loop_prog.specs.Conditions.{kinds_fit, may_join, push_kind, stack_takes, template_stack, with_kind};
+ghost use Rattle.loop_prog.specs.Conditions.{fold_takes, kinds_fit, push_kind, stack_takes, template_stack, with_kind};
 ghost use Rattle.loop_prog.specs.Conditions.{view_type, word_kind};
 ghost use Rattle.eager_rules.specs.Types.{may_store};
 ghost use Rattle.loop_prog.specs.Judging.{stack_by, stack_of};
@@ -156,8 +156,9 @@ fn nest_takes(array: Kind, stack: &Stack) -> bool
 }
 
 /// Whether a register of a kind takes the join of a template's values.
+#[tactic(auto, unfolding(crate::specs::Conditions::fold_takes))]
 fn fold_takes(join: Join, register: Kind, stack: &Stack) -> bool
-    ensures { result ≡ stack_takes (may_join join register) (stack_of stack.now) }
+    ensures { result ≡ fold_takes join register (stack_of stack.now) }
 {
     match stack.state {
         Pushed::Wrong => false,
@@ -193,7 +194,7 @@ fn fold_kinds(
     steps: &[TemplateStep],
 ) -> Result<bool, NoMemory>
     ensures { IfOk result (λ fits. fits ≡
-        stack_takes (may_join join (word_kind kernel.now to)) (template_stack kernel.now steps.now)) }
+        fold_takes join (word_kind kernel.now to) (template_stack kernel.now steps.now)) }
 {
     let stack = template_stack(alloc, kernel, steps)?;
     let register = word_kind(kernel, to);
