@@ -1,10 +1,10 @@
 -- A walk over a block, one statement further.
-use Rattle.std.proofs.Common.{arith, ◌<◌, ◌≡◌, ◌∙◌, ap, sym, subst, refl, ℕ, ◌+◌, List, [], ◌∷◌, ◌++◌, length, drop}
-use Rattle.std.proofs.Common.{Bool, true, false, nat_eq, Option, Some, None, Result, Ok, Err}
+use Rattle.std.proofs.Common.{arith, ◌<◌, ◌≡◌, ◌∙◌, ap, sym, subst, ℕ, ◌+◌, List, [], ◌∷◌, ◌++◌, length, drop}
+use Rattle.std.proofs.Common.{true, false, nat_eq, None, Result, Err}
 use Rattle.std.proofs.lemmas.Bool.Decides.{nat_tests}
 use Rattle.loop_prog.proofs.Blocks.{block_more, findings_are}
 use Rattle.loop_prog.proofs.Flaws.{judged_stops, judged_then, left_more, left_stops}
-use Rattle.loop_prog.specs.Check.{before_rest, findings, first_broken, first_flaw, flaw_or, kept_at}
+use Rattle.loop_prog.specs.Check.{before_rest, findings, first_flaw, kept_at}
 use Rattle.loop_prog.specs.Judging.{Judged, Left, block_by, inner_by, placed}
 use Rattle.loop_prog.specs.Paths.{flow}
 use Rattle.loop_prog.specs.declared.invalid.CheckStop.{CheckStop}

@@ -1,6 +1,6 @@
 -- What is found of a statement and of a block, one level unfolded.
-use Rattle.std.proofs.Common.{◌≡◌, ◌∙◌, ap, ap₂, sym, subst, refl, Bool, false, not, ◌&&◌, ◌||◌, ℕ, List, [], ◌∷◌, ◌++◌, map}
-use Rattle.loop_prog.specs.Check.{Findings, before_rest, block_findings, findings, findings_step, has_some, kept_at}
+use Rattle.std.proofs.Common.{◌≡◌, ◌∙◌, ap, ap₂, subst, refl, Bool, false, not, ◌&&◌, ◌||◌, List, [], ◌∷◌, ◌++◌, map}
+use Rattle.loop_prog.specs.Check.{Findings, before_rest, findings, findings_step, has_some, kept_at}
 use Rattle.loop_prog.specs.Check.{deeper, nesting_fits, with_findings}
 use Rattle.loop_prog.specs.Conditions.{kinds_fit, ranks_fit, registers_fit, templates_fit}
 use Rattle.loop_prog.specs.Statements.{reads_of}

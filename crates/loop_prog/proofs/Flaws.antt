@@ -1,5 +1,5 @@
 -- The first flaw of a list of entries, and walks over parts of it.
-use Rattle.std.proofs.Common.{arith, length-append, ◌≡◌, ◌∙◌, ap, sym, refl, ℕ, ◌+◌, List, [], ◌∷◌, ◌++◌, length}
+use Rattle.std.proofs.Common.{arith, length-append, ◌≡◌, ◌∙◌, ap, sym, ℕ, ◌+◌, List, [], ◌∷◌, ◌++◌, length}
 use Rattle.std.proofs.Common.{Option, Some, None, Result, Ok, Err}
 use Rattle.loop_prog.specs.Check.{first_broken, first_flaw, flaw_or}
 use Rattle.loop_prog.specs.Judging.{Judged, Left}

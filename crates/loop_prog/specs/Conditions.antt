@@ -2,10 +2,9 @@
 -- which operations take which kinds is NumPy's rule for int64 and bool_, as for the core.)
 use Rattle.std.specs.Prelude.{ℕ, ◌+◌, ◌-◌, ◌==◌, ◌&&◌, ◌||◌, not, Bool, true, false, nat_lt, nat_le, if◌then◌else◌, max}
 use Rattle.std.specs.Prelude.{List, [], ◌∷◌, ◌++◌, map, length, slice_index_or, Option, Some, None, ℤ}
-use Rattle.std.specs.List.{flat_map, list_all, count_by, zip}
+use Rattle.std.specs.List.{flat_map, list_all}
 use Rattle.krn_base.specs.declared.kind.Kind.{Kind}
 use Rattle.krn_base.specs.declared.kind.Kind.TheVariants.{Int64, Bool as Boolean}
-use Rattle.krn_base.specs.declared.operation.BinOp.{BinOp}
 use Rattle.krn_base.specs.declared.operation.Join.{Join}
 use Rattle.krn_base.specs.declared.operation.Join.TheVariants as joins
 use Rattle.krn_base.specs.declared.operation.UnOp.{UnOp}

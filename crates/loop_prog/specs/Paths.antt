@@ -4,7 +4,6 @@
 use Rattle.std.specs.Prelude.{ℕ, ◌+◌, ◌*◌, ◌&&◌, Bool, true, false, max, List, [], ◌∷◌, map, length, replicate}
 use Rattle.std.specs.Prelude.{slice_index_or, slice_set, not, ◌||◌, if◌then◌else◌}
 use Rattle.std.specs.List.{list_all, zip}
-use Rattle.krn_base.specs.declared.kind.Kind.{Kind}
 use Rattle.loop_prog.specs.Serial.{param_regs, types_of_params}
 use Rattle.loop_prog.specs.Statements.{binds_of}
 use Rattle.loop_prog.specs.declared.paths.Paths.{Paths}

@@ -7,7 +7,7 @@ use Rattle.std.specs.Prelude.{Option, Some, None}
 use Rattle.krn_base.specs.declared.kind.Kind.{Kind}
 use Rattle.krn_base.specs.declared.kind.Kind.TheVariants.{Int64}
 use Rattle.krn_base.specs.declared.kind.ParamType.{ParamType}
-use Rattle.krn_base.specs.declared.kind.ParamType.TheVariants.{Scalar, Flat, Strided}
+use Rattle.krn_base.specs.declared.kind.ParamType.TheVariants.{Scalar}
 use Rattle.array_ops.specs.Elements.{Bound, Unbound, WordOf}
 use Rattle.eager_rules.specs.Blocks.{Meaning, End, GoesOn, Returned, Faulted, Stuck, then_do, in_order, loop_over, choice}
 use Rattle.eager_rules.specs.Outcome.{buffers_of, finished}
@@ -25,7 +25,6 @@ use Rattle.loop_prog.specs.State.{State, back_value, bind, bind_all, count_loop,
 use Rattle.loop_prog.specs.State.{with_counts}
 use Rattle.loop_prog.specs.Statements.{binds_of}
 use Rattle.loop_prog.specs.Works.{check_work, fold_to, like_work, nest}
-use Rattle.loop_prog.specs.declared.guard.Guard.{Guard}
 use Rattle.loop_prog.specs.declared.program.Kernel.{Kernel}
 use Rattle.loop_prog.specs.declared.program.LoopProgram.{LoopProgram}
 use Rattle.loop_prog.specs.declared.program.Reg.{Reg}

@@ -1,11 +1,10 @@
 -- The statements of a loop program: what each reads and binds by itself, and the list of all of them by which they are
 -- numbered.
-use Rattle.std.specs.Prelude.{ℕ, List, [], ◌∷◌, ◌++◌, map}
+use Rattle.std.specs.Prelude.{List, [], ◌∷◌, ◌++◌, map}
 use Rattle.std.specs.List.{flat_map}
 use Rattle.eager_rules.specs.Works.{sub_operands}
 use Rattle.eager_rules.specs.declared.program.Oper.{Oper}
 use Rattle.eager_rules.specs.declared.program.Oper.TheVariants as oper
-use Rattle.loop_prog.specs.Templates.{leaves}
 use Rattle.loop_prog.specs.declared.program.Back.{Back}
 use Rattle.loop_prog.specs.declared.program.Back.TheVariants as back
 use Rattle.loop_prog.specs.declared.program.Reg.{Reg}

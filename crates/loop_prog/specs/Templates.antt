@@ -1,6 +1,6 @@
 -- Templates: how one element is made of the elements of leaves, by steps in postfix order. What a template reads goes
 -- by the lists of registers and not by the state, so that a store changes nothing but the buffers.
-use Rattle.std.specs.Prelude.{ℕ, Bool, true, false, if◌then◌else◌, ℤ, pos, List, [], ◌∷◌, ◌++◌, map, length}
+use Rattle.std.specs.Prelude.{ℕ, Bool, true, false, if◌then◌else◌, ℤ, pos, List, [], ◌∷◌, map}
 use Rattle.std.specs.Prelude.{slice_index_or, Result, Ok, Err}
 use Rattle.std.specs.List.{flat_map, list_all, list_any, range_with_len}
 use Rattle.krn_base.specs.Numbers.{element_result, unary_result}
@@ -10,9 +10,9 @@ use Rattle.view_places.specs.Arrays.{element_count, spread}
 use Rattle.overlap.specs.Lists.{verdict_of_places}
 use Rattle.overlap.specs.Walks.{Leaf, in_place, through_temporary}
 use Rattle.overlap.specs.declared.table.Verdict.{Verdict}
-use Rattle.overlap.specs.declared.table.Verdict.TheVariants.{Apart, Same, Ahead, Clash}
+use Rattle.overlap.specs.declared.table.Verdict.TheVariants.{Clash}
 use Rattle.array_ops.specs.Arrays.{ArrayRef}
-use Rattle.array_ops.specs.Elements.{Bound, Unbound, WordOf, ArrayOf, choose, extents_of, operand_elements, spreads_to}
+use Rattle.array_ops.specs.Elements.{Bound, ArrayOf, choose, extents_of, operand_elements, spreads_to}
 use Rattle.eager_rules.specs.Works.{word_of}
 use Rattle.loop_prog.specs.State.{operand_in, view_in}
 use Rattle.loop_prog.specs.declared.program.TemplateStep.{TemplateStep}

@@ -1,5 +1,5 @@
 -- The work of the statements that the core hasn't: new buffers of zeros, tests of shapes, nests and folds.
-use Rattle.std.specs.Prelude.{ℕ, zero, suc, Bool, true, false, ℤ, pos, List, [], ◌∷◌, map, fold, Option, Result, Ok, Err}
+use Rattle.std.specs.Prelude.{ℕ, zero, suc, Bool, false, ℤ, List, Result, Ok, Err}
 use Rattle.krn_base.specs.Numbers.{truth}
 use Rattle.krn_base.specs.declared.fault.Fault.{Fault}
 use Rattle.krn_base.specs.declared.fault.Fault.TheVariants.{ValueError}
@@ -13,8 +13,8 @@ use Rattle.array_ops.specs.Elements.{Bound, WordOf, shape_of, filled, joined, is
 use Rattle.array_ops.specs.Subscripts.{and_then}
 use Rattle.array_ops.specs.declared.operation.Fill.TheVariants.{Zero}
 use Rattle.eager_rules.specs.Blocks.{Meaning, given}
-use Rattle.eager_rules.specs.Works.{Done, Made, Work, array_in, changed, made_new}
-use Rattle.loop_prog.specs.State.{State, bind, count_nest, view, with_buffers, with_counts}
+use Rattle.eager_rules.specs.Works.{Work, changed, made_new}
+use Rattle.loop_prog.specs.State.{State, bind, count_nest, with_buffers, with_counts}
 use Rattle.loop_prog.specs.Templates.{element, elements, leaf_values, nest_shape, nested, some_clash}
 use Rattle.loop_prog.specs.declared.program.Reg.TheVariants as reg
 use Rattle.loop_prog.specs.declared.program.TemplateStep.{TemplateStep}

@@ -22,3 +22,6 @@ pub use eager_rules::{CoreSub, Counts, Oper, WordOp};
 pub use guard::{Axis, Dims, Form, Guard, GuardPart, Symbol};
 pub use invalid::{CheckStop, InvalidRule};
 pub use program::{Back, Kernel, LoopProgram, Reg, Statement, Template, TemplateStep, Test};
+
+#[cfg(test)]
+mod tests;

@@ -1,4 +1,4 @@
-use Rattle.std.proofs.Common.{◌≡◌, ◌∙◌, ap, sym, subst, ℕ, ◌+◌, List, [], ◌∷◌, ◌++◌, drop, take, Err}
+use Rattle.std.proofs.Common.{◌≡◌, ◌∙◌, ap, sym, subst, ◌+◌, List, [], ◌∷◌, ◌++◌, drop, take, Err}
 use Rattle.std.proofs.lemmas.List.{drop_more, take_more}
 use Rattle.loop_prog.proofs.KernelWalks.{flaw_by, kernel_goes, kernel_stops}
 use Rattle.loop_prog.specs.Check.{first_flaw, kernels_findings}

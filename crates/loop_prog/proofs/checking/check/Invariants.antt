@@ -1,4 +1,4 @@
-use Rattle.std.proofs.Common.{◌≡◌, ◌++◌, ◌∷◌, [], ◌&&◌, ◌+◌, ◌-◌, map, drop, take, length, max, nat_le, reverse, replicate, false}
+use Rattle.std.proofs.Common.{[], drop, take}
 use Rattle.loop_prog.specs.Judging.{Left}
 use Rattle.loop_prog.specs.Check.{kernels_findings}
 use Rattle.loop_prog.proofs.checking.check.Given as goal

@@ -1,4 +1,4 @@
-use Rattle.std.proofs.Common.{rules, ◌≡◌, ◌∙◌, ap, sym, ◌<◌, List, ◌∷◌, length, drop, slice_index_or, Some, None}
+use Rattle.std.proofs.Common.{rules, ◌≡◌, ◌∙◌, ap, sym, ◌<◌, List, ◌∷◌, length, drop, slice_index_or}
 use Rattle.std.proofs.lemmas.List.{drop_more}
 use Rattle.loop_prog.proofs.KernelWalks.{head_goes, head_stops}
 use Rattle.loop_prog.specs.Check.{both_keep, first_broken}

@@ -1,4 +1,4 @@
-use Rattle.std.proofs.Common.{◌≡◌, ◌++◌, map, drop}
+use Rattle.std.proofs.Common.{◌≡◌, drop}
 use Rattle.loop_prog.specs.Paths.{assign}
 use Rattle.loop_prog.proofs.flows.assign.Given as goal
 

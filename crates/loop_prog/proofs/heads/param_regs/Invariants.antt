@@ -1,4 +1,4 @@
-use Rattle.std.proofs.Common.{◌≡◌, ◌++◌, ◌∷◌, [], ◌&&◌, ◌+◌, ◌-◌, map, drop, take, length, max, nat_le, reverse, replicate, false}
+use Rattle.std.proofs.Common.{◌≡◌, ◌++◌, map, drop}
 use Rattle.loop_prog.specs.Serial.{param_regs}
 use Rattle.loop_prog.proofs.heads.param_regs.Given as goal
 

@@ -1,4 +1,4 @@
-use Rattle.std.proofs.Common.{◌≡◌, ◌++◌, ◌∷◌, [], ◌&&◌, ◌+◌, ◌-◌, map, drop, take, length, max, nat_le, reverse, replicate, false}
+use Rattle.std.proofs.Common.{◌≡◌, map, drop}
 use Rattle.std.specs.List.{list_all}
 use Rattle.loop_prog.specs.Check.{param_is_ranked}
 use Rattle.loop_prog.proofs.heads.params_are_ranked.Given as goal

@@ -1,4 +1,4 @@
-use Rattle.std.proofs.Common.{◌≡◌, ◌++◌, ◌∷◌, [], ◌&&◌, ◌+◌, ◌-◌, map, drop, take, length, max, nat_le, reverse, replicate, false}
+use Rattle.std.proofs.Common.{◌≡◌, map, length}
 use Rattle.loop_prog.specs.Check.{same_params}
 use Rattle.loop_prog.proofs.heads.same_params.Given as goal
 

@@ -1,4 +1,4 @@
-use Rattle.std.proofs.Common.{◌≡◌, ◌++◌, ◌∷◌, [], ◌&&◌, ◌+◌, ◌-◌, map, drop, take, length, max, nat_le, reverse, replicate, false}
+use Rattle.std.proofs.Common.{◌≡◌, drop}
 use Rattle.std.specs.List.{list_all}
 use Rattle.loop_prog.specs.Check.{is_rank}
 use Rattle.loop_prog.proofs.heads.views_are_ranked.Given as goal

@@ -1,7 +1,6 @@
-use Rattle.std.proofs.Common.{arith, rules, ◌≡◌, ◌∙◌, ap, sym, subst, ℕ, ◌+◌, ◌<◌, ◌≤◌, List, [], ◌∷◌, ◌++◌, length, drop, Err}
-use Rattle.loop_prog.specs.Judging.{Judged, inner_by}
-use Rattle.loop_prog.specs.Check.{first_flaw, kept_at}
-use Rattle.loop_prog.specs.declared.program.Statement.{out-Statement}
+use Rattle.std.proofs.Common.{arith, rules, ◌≡◌, ◌∙◌, ap, sym, subst, ℕ, ◌+◌, ◌<◌, List, ◌∷◌, length, drop, Err}
+use Rattle.loop_prog.specs.Judging.{Judged}
+use Rattle.loop_prog.specs.Check.{first_flaw}
 use Rattle.loop_prog.proofs.BlockWalks.{block_goes, block_stops, entry_goes, entry_stops}
 use Rattle.loop_prog.proofs.Flaws.{judged_stops, judged_then}
 use Rattle.std.proofs.Common.{◌-◌, nat_eq, length-drop, slice_index_or, None}

@@ -1,4 +1,4 @@
-use Rattle.std.proofs.Common.{◌≡◌, ◌++◌, ◌&&◌, map, drop, length, max, nat_le, reverse}
+use Rattle.std.proofs.Common.{◌≡◌, map, length}
 use Rattle.loop_prog.specs.Conditions.{back_type}
 use Rattle.eager_rules.specs.Types.{same_types}
 use Rattle.loop_prog.proofs.ranks.backs_fit.Given as goal

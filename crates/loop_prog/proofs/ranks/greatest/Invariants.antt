@@ -1,4 +1,4 @@
-use Rattle.std.proofs.Common.{◌≡◌, ◌++◌, ◌&&◌, map, drop, length, max, nat_le, reverse}
+use Rattle.std.proofs.Common.{◌≡◌, map, drop, max}
 use Rattle.loop_prog.specs.Conditions.{greatest, view_rank}
 use Rattle.loop_prog.proofs.ranks.greatest.Given as goal
 

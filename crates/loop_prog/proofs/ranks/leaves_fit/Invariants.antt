@@ -1,4 +1,4 @@
-use Rattle.std.proofs.Common.{◌≡◌, ◌++◌, ◌&&◌, map, drop, length, max, nat_le, reverse}
+use Rattle.std.proofs.Common.{◌≡◌, drop, nat_le}
 use Rattle.std.specs.List.{list_all}
 use Rattle.loop_prog.specs.Conditions.{view_rank}
 use Rattle.loop_prog.specs.Templates.{leaves}

@@ -1,4 +1,4 @@
-use Rattle.std.proofs.Common.{◌≡◌, ◌++◌, map, drop}
+use Rattle.std.proofs.Common.{◌≡◌, ◌++◌, drop}
 use Rattle.std.specs.List.{flat_map}
 use Rattle.loop_prog.specs.Conditions.{axis_regs}
 use Rattle.loop_prog.proofs.registers.add_dims.Given as goal

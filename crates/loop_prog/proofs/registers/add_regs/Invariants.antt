@@ -1,4 +1,4 @@
-use Rattle.std.proofs.Common.{◌≡◌, ◌++◌, map, drop}
+use Rattle.std.proofs.Common.{◌≡◌, ◌++◌, drop}
 use Rattle.loop_prog.proofs.registers.add_regs.Given as goal
 
 abbrev pub invariant-loop-register : goal.invariant-loop-register

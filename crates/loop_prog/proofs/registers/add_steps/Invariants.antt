@@ -1,4 +1,4 @@
-use Rattle.std.proofs.Common.{◌≡◌, ◌++◌, map, drop}
+use Rattle.std.proofs.Common.{◌≡◌, ◌++◌, drop}
 use Rattle.std.specs.List.{flat_map}
 use Rattle.loop_prog.specs.Statements.{step_regs}
 use Rattle.loop_prog.proofs.registers.add_steps.Given as goal

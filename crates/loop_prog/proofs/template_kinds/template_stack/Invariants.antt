@@ -1,4 +1,4 @@
-use Rattle.std.proofs.Common.{◌≡◌, ◌++◌, ◌&&◌, map, drop, length, max, nat_le, reverse}
+use Rattle.std.proofs.Common.{◌≡◌, drop, reverse}
 use Rattle.loop_prog.specs.Conditions.{push_kinds, template_stack, Kinds}
 use Rattle.loop_prog.proofs.template_kinds.template_stack.Given as goal
 

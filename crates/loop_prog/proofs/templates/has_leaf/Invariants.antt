@@ -1,4 +1,4 @@
-use Rattle.std.proofs.Common.{◌≡◌, ◌++◌, ◌&&◌, map, drop, length, max, nat_le, reverse}
+use Rattle.std.proofs.Common.{◌≡◌, drop}
 use Rattle.loop_prog.specs.Conditions.{some_views}
 use Rattle.loop_prog.specs.Templates.{leaves}
 use Rattle.loop_prog.proofs.templates.has_leaf.Given as goal

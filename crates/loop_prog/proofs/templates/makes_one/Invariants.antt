@@ -1,4 +1,4 @@
-use Rattle.std.proofs.Common.{◌≡◌, ◌++◌, ◌&&◌, map, drop, length, max, nat_le, reverse}
+use Rattle.std.proofs.Common.{◌≡◌, drop}
 use Rattle.std.proofs.Common.{◌≤◌}
 use Rattle.loop_prog.specs.Conditions.{depth_after}
 use Rattle.loop_prog.proofs.templates.makes_one.Given as goal
