@@ -1,0 +1,4 @@
+pub mod Flaws
+pub mod Blocks
+pub mod BlockWalks
+pub mod KernelWalks

@@ -1,0 +1,10 @@
+pub mod State
+pub mod Templates
+pub mod Works
+pub mod Guards
+pub mod Statements
+pub mod Serial
+pub mod Paths
+pub mod Conditions
+pub mod Check
+pub mod Judging

@@ -1,0 +1,59 @@
+// When a loop program is taken.
+ghost use Rattle.std.specs.Prelude.{◌≡◌};
+ghost use Rattle.loop_prog.specs.Check.{flaw_of, kernel_findings};
+ghost use Rattle.loop_prog.specs.Judging.{IsFlaw, Judged};
+
+use crate::heads::{at_start, kernel_keeps};
+use crate::inspect::{inspect_block, judge, kept_at, placed};
+use crate::invalid::CheckStop;
+use crate::kept::{Site, both_keep, first_broken};
+use crate::program::{Kernel, LoopProgram};
+use std::alloc::Global;
+
+/// A kernel behind earlier ones. Its own rules are tested with those of its first statement.
+fn check_kernel(
+    kernel: &Kernel,
+    earlier: &[Kernel],
+    alloc: Global,
+    number: &mut u32,
+) -> Result<(), CheckStop>
+    ensures { Judged result number.old number.new (kernel_findings earlier.now kernel.now) }
+{
+    let own = kernel_keeps(alloc, earlier, kernel)?;
+    let start = at_start(alloc, kernel)?;
+    let body = kernel.body.as_slice();
+    let whole = Site {
+        depth: 0,
+        ends: true,
+    };
+    let Some(first) = body.first() else {
+        return judge(own, number);
+    };
+    let kept = kept_at(first, kernel, placed(whole, 1 == body.len()), alloc, &start)?;
+    if let Some(rule) = first_broken(both_keep(own, kept)) {
+        return Err(CheckStop::Invalid { at: *number, rule });
+    }
+    inspect_block(body, kernel, whole, alloc, start, number)
+}
+
+/// Whether a loop program is taken: each statement keeps each rule. Else the first statement that doesn't, numbered
+/// from 0 over the whole program in the order of its lines, with the first rule that it breaks in the order of
+/// `InvalidRule`; or want of memory, also where there are 2^32 statements or parameters.
+///
+/// The rules from `Loop` on, which are those of parallel loops, aren't tested here.
+///
+/// Registers and what is assigned are looked up in tables. The time is that of the statements, each as often as there
+/// are loops and blocks with statements behind them around it, of the registers of the kernel for each statement with
+/// blocks, and of the kernels' heads, each against those before it.
+pub fn check(program: &LoopProgram, alloc: Global) -> Result<(), CheckStop>
+    ensures { IsFlaw result (flaw_of program.now) }
+{
+    let kernels = program.kernels.as_slice();
+    let mut number: u32 = 0;
+    for k in 0..kernels.len() {
+        if let Err(stop) = check_kernel(&kernels[k], &kernels[..k], alloc, &mut number) {
+            return Err(stop);
+        }
+    }
+    Ok(())
+}
