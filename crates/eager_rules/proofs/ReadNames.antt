@@ -65,7 +65,8 @@ module _ (R : ℕ → Type 0) (calls : Calls) where
       ap (λ (vs : List Bound). operand t x ∷ vs)
       (operands_same s t xs h (every_right R (name_of x) (flat_map name_of xs) r))
 
-  bound_by : (s : State) (xs : List Oper) → list_all (λ x. is_bound (operand s x)) xs ≡ list_all is_bound (map (operand s) xs)
+  bound_by : (s : State) (xs : List Oper) →
+      list_all (λ x. is_bound (operand s x)) xs ≡ list_all is_bound (map (operand s) xs)
   bound_by s [] = refl
   bound_by s (x ∷ xs) = ap (λ (b : Bool). is_bound (operand s x) && b) (bound_by s xs)
 
@@ -73,7 +74,8 @@ module _ (R : ℕ → Type 0) (calls : Calls) where
       ready s xs to ≡ ready t xs to
   ready_same s t xs to h r =
       let same : list_all (λ x. is_bound (operand s x)) xs ≡ list_all (λ x. is_bound (operand t x)) xs =
-      bound_by s xs ∙ (ap (λ (vs : List Bound). list_all is_bound vs) (operands_same s t xs h r) ∙ sym (bound_by t xs)) in
+      bound_by s xs ∙ (ap (λ (vs : List Bound). list_all is_bound vs) (operands_same s t xs h r) ∙ sym
+      (bound_by t xs)) in
       ap (λ (b : Bool). b && list_all (λ (name : ℕ). nat_lt name (length s.names)) to) same ∙
       ap (λ (k : ℕ). list_all (λ x. is_bound (operand t x)) xs && list_all (λ (name : ℕ). nat_lt name k) to) h.size
 
@@ -90,7 +92,8 @@ module _ (R : ℕ → Type 0) (calls : Calls) where
   all_bound [] (v ∷ values) s t h = h
   all_bound (n ∷ to) (v ∷ values) s t h = all_bound to values (bind n v s) (bind n v t) (bound_alike n v s t h)
 
-  with_alike : (buffers : List (List ℤ)) (s t : State) → Alike s t → Alike (with_buffers buffers s) (with_buffers buffers t)
+  with_alike : (buffers : List (List ℤ)) (s t : State) → Alike s t →
+      Alike (with_buffers buffers s) (with_buffers buffers t)
   with_alike buffers s t h = record { buffers = refl; size = h.size; named = h.named }
 
   finish_alike : (to : List ℕ) (d : Done) (s t : State) → Alike s t → Ends (finish to d s) (finish to d t)
@@ -106,7 +109,8 @@ module _ (R : ℕ → Type 0) (calls : Calls) where
   where_alike false true p q s t h e k = absurd (let f = e in cc)
   where_alike false false p q s t h e k = (h, refl)
 
-  step_alike : (reads : List Oper) (to : List ℕ) (work : Work) → AllByRecursion R (flat_map name_of reads) → (s t : State) →
+  step_alike : (reads : List Oper) (to : List ℕ) (work : Work) → AllByRecursion R (flat_map name_of reads) →
+      (s t : State) →
       Alike s t → Ends (step reads to work s) (step reads to work t)
   step_alike reads to work r s t h =
       let values : map (operand s) reads ≡ map (operand t) reads = operands_same s t reads h r in
@@ -254,7 +258,8 @@ module _ (R : ℕ → Type 0) (calls : Calls) where
   core_alike : (x : Core) → Fine x
   core_alike = by_layers Fine layer
 
-  pub block_alike : (body : List Core) → AllByRecursion R (names_read body) → Follows (block calls body) (block calls body)
+  pub block_alike : (body : List Core) → AllByRecursion R (names_read body) →
+      Follows (block calls body) (block calls body)
   block_alike [] r s t h = (h, refl)
   block_alike (x ∷ body) r s t h =
       let first = core_alike x (every_left R (reads_in x) (names_read body) r) s t h in
