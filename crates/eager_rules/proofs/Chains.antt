@@ -1,5 +1,6 @@
 -- In a program without a cycle of calls, no chain of calls passes more instances than there are.
-use Rattle.std.proofs.Common.{arith, ◌≡◌, ◌∙◌, ◌+◌, ◌<◌, ◌≤◌, ap, sym, subst, refl, inl, inr, ℕ, zero, suc, Bool, true, false}
+use Rattle.std.proofs.Common.{arith, ◌≡◌, ◌∙◌, ◌+◌, ◌<◌, ◌≤◌, ap, sym, subst, refl, inl, inr, ℕ, zero, suc, Bool}
+use Rattle.std.proofs.Common.{true, false}
 use Rattle.std.proofs.Common.{List, [], ◌∷◌, ◌++◌, map, length, slice_get, Option, Some, None, ltb, ℤ}
 use Rattle.std.proofs.lemmas.Bool.{cases_lt}
 use Rattle.std.proofs.lemmas.Bool.Decides.{nat_tests}
@@ -217,7 +218,8 @@ every_by P Q f (x ∷ xs) h = (f x h.0, every_by P Q f xs h.1)
 called_same : (calls others : Calls) (f : Instance) → block calls f.body ≡ block others f.body →
     called calls (Some f) ≡ called others (Some f)
 called_same calls others f same =
-    ap (λ (m : Meaning State). λ (args : List Bound) (buffers : List (List ℤ)). done_of (m (entered f args buffers))) same
+    ap (λ (m : Meaning State). λ (args : List Bound) (buffers : List (List ℤ)). done_of (m (entered f args buffers)))
+    same
 
 none_called : (calls others : Calls) → called calls None ≡ called others None
 none_called calls others = refl

@@ -49,7 +49,8 @@ module _ {A B : Type 0} (R : A → B → Type 0) where
   each_length (a ∷ xs) [] h = absurd h
   each_length (a ∷ xs) (b ∷ ys) h = ap suc (each_length xs ys h.1)
 
-pub each_more : {A B : Type 0} (R S : A → B → Type 0) → ((x : A) (y : B) → R x y → S x y) → (xs : List A) (ys : List B) →
+pub each_more : {A B : Type 0} (R S : A → B → Type 0) → ((x : A) (y : B) → R x y → S x y) →
+    (xs : List A) (ys : List B) →
     Each R xs ys → Each S xs ys
 each_more R S f [] [] h = tt
 each_more R S f [] (y ∷ ys) h = h

@@ -16,3 +16,4 @@ pub mod KeptBuffers
 pub mod Chains
 pub mod Ready
 pub mod NeverStuck
+pub mod ReadNames

@@ -40,7 +40,8 @@ use Rattle.eager_rules.specs.State.{State, bound_to, is_bound, operand}
 use Rattle.eager_rules.specs.Statements.{calls_of, calls_step}
 use Rattle.eager_rules.specs.Types.{Ty, is_truth, same_types, type_of, type_of_param, types_of, word_type}
 use Rattle.eager_rules.specs.Works.{Done, Made, Failed, Blocked, array_in, as_array, as_word, changed, made_new}
-use Rattle.eager_rules.specs.Works.{extent_work, flip_work, move_work, range_values, sub_operands, subscripts_of, valued, word_of, word_result}
+use Rattle.eager_rules.specs.Works.{extent_work, flip_work, move_work, range_values, sub_operands, subscripts_of}
+use Rattle.eager_rules.specs.Works.{valued, word_of, word_result}
 use Rattle.eager_rules.specs.Works.{fresh_work, get_work, map_work, pick_work, put_work, reduce_work, store_work}
 use Rattle.eager_rules.specs.Works.{word_work}
 use Rattle.eager_rules.specs.declared.call.Arg.{Arg}
@@ -130,7 +131,8 @@ covered names (name ∷ to) [] values n k = absurd n
 covered names (name ∷ to) (t ∷ types) [] n k = absurd k
 covered names (name ∷ to) (t ∷ types) (v ∷ values) n k = (k.0, covered names to types values n.1 k.1)
 
-covered_by : (names : List Ty) (to : List ℕ) (rets : List Ty) (values : List Bound) → takes_values names to rets ≡ true →
+covered_by : (names : List Ty) (to : List ℕ) (rets : List Ty) (values : List Bound) →
+    takes_values names to rets ≡ true →
     Counted rets values → Covers to values
 covered_by names [] rets values f k = tt
 covered_by names (name ∷ to) rets values f k =
@@ -159,7 +161,8 @@ good_call : (heads : List Head) (names : List Ty) (calls : Calls) (o : Option He
 good_call heads names calls None to instance args s buffers e f k b = not_true f
 good_call heads names calls (Some head) to instance args s buffers e f k b =
     let taken = some_given (types_of names args) (λ types. same_types types head.0)
-    (and_left (given_types (types_of names args) (λ types. same_types types head.0)) (takes_values names to head.1) f) in
+    (and_left (given_types (types_of names args) (λ types. same_types types head.0)) (takes_values names to head.1) f)
+    in
     answered names to head.1 (calls instance (map (operand s) args) buffers)
     (and_right (given_types (types_of names args) (λ types. same_types types head.0)) (takes_values names to head.1) f)
     (k head e (map (operand s) args) buffers

@@ -126,8 +126,8 @@ is_ready a s reads to h b n =
     (bound_opers a s reads h b)
     (subst (λ (k : ℕ). list_all (λ (name : ℕ). nat_lt name k) to ≡ true) (sym (each_length OfTest a s.names h)) n)
 
--- What a statement comes to: it is never stuck; where it goes on, the names that the walk says are bound, and it doesn't
--- always return; and it returns a value for each type.
+-- What a statement comes to: it is never stuck; where it goes on, the names that the walk says are bound, and it
+-- doesn't always return; and it returns a value for each type.
 abbrev pub FineEnd : List Ty → Bindings → Bool → State × End → Type 0
 FineEnd rets out shut (s, GoesOn) = Tests out s × (shut ≡ false)
 FineEnd rets out shut (s, Returned values) = Each (λ (t : Ty) v. is_bound v ≡ true) rets values
@@ -175,7 +175,8 @@ step_safe rets reads to work good a out w =
     (some_same (put_all to a) out found.1) (
       grows_put to a,
       λ s h.
-          ready_fine rets (put_all to a) false (ready s reads to) (finish to (work (map (operand s) reads) s.buffers) s) s
+          ready_fine rets (put_all to a) false (ready s reads to)
+          (finish to (work (map (operand s) reads) s.buffers) s) s
           (is_ready a s reads to h reads_bound fits)
           (finish_fine rets to a (work (map (operand s) reads) s.buffers) s h
           (good s s.buffers (bound_opers a s reads h reads_bound))),

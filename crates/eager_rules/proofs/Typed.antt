@@ -96,7 +96,8 @@ or_zero : (kind : Kind) (words : List ℤ) (place : ℕ) → All (IsOfKind kind)
     IsOfKind kind (slice_index_or words place (pos 0))
 or_zero kind [] place all = zero_of kind
 or_zero kind (w ∷ words) zero all = All-head (IsOfKind kind) w words all
-or_zero kind (w ∷ words) (suc place) all = or_zero kind words place (λ k d inside. all (suc k) d (omega (arith, inside)))
+or_zero kind (w ∷ words) (suc place) all = or_zero kind words place
+    (λ k d inside. all (suc k) d (omega (arith, inside)))
 
 pub word_in : (rows : List Row) (buffers : List (List ℤ)) (kind : Kind) (buffer place : ℕ) → HoldAll rows buffers →
     LiesIn rows kind buffer → IsOfKind kind (word_at buffers buffer place)

@@ -25,7 +25,8 @@ use Rattle.eager_rules.specs.Sound.{named_types, takes_values, call_fits, fits_s
 use Rattle.eager_rules.specs.Sound.{reduction_fits}
 use Rattle.eager_rules.specs.State.{State, operand, is_bound, bind, with_buffers, truth_word}
 use Rattle.eager_rules.specs.Types.{Ty, is_array, type_of, types_of, add_type, same_types}
-use Rattle.eager_rules.specs.Types.{word_type, map_type, reduce_type, pick_type, put_fits, store_fits, may_store, is_truth}
+use Rattle.eager_rules.specs.Types.{word_type, map_type, reduce_type, pick_type, put_fits, store_fits, may_store}
+use Rattle.eager_rules.specs.Types.{is_truth}
 use Rattle.eager_rules.specs.Types.{fresh_fits, is_scalar, sub_fits}
 use Rattle.eager_rules.specs.Works.{Done, Made, Failed, Blocked, Work, word_of, range_values, sub_operands}
 use Rattle.eager_rules.specs.declared.program.Core.{Core}
@@ -86,7 +87,8 @@ read_all rows names s (x ∷ xs) (t ∷ types) h r b =
     (read_one rows names s x t h r.0 first, read_all rows names s xs types h r.1 rest)
 
 -- Values that are bound to names.
-pub bound_typed : (rows : List Row) (names : List Ty) (name : ℕ) (t : Ty) (v : Bound) (s : State) → StateOf rows names s →
+pub bound_typed : (rows : List Row) (names : List Ty) (name : ℕ) (t : Ty) (v : Bound) (s : State) →
+    StateOf rows names s →
     slice_get names name ≡ Some t → OfType rows t v → StateOf rows names (bind name v s)
 bound_typed rows names name t v s h e o = record {
   buffers = h.buffers;
@@ -156,7 +158,8 @@ for_each_typed names rets var body e m (z ∷ xs) rows s h =
     (m rows (set_variable var z s) (bound_typed rows names var (Int64, 0) (WordOf z) s h e (refl, tt)))
     (for_each_typed names rets var body e m xs)
 
-loop_typed : (names rets : List Ty) (var : ℕ) (body : Meaning State) (at : Loc) → slice_get names var ≡ Some (Int64, 0) →
+loop_typed : (names rets : List Ty) (var : ℕ) (body : Meaning State) (at : Loc) →
+    slice_get names var ≡ Some (Int64, 0) →
     MeaningOf names rets body → (turns : Option (List ℤ)) →
     MeaningOf names rets (loop_over (set_variable var) body at turns)
 loop_typed names rets var body at e m None rows s h = stays rows names s h
@@ -284,7 +287,8 @@ module _ (heads : List Head) (rets names : List Ty) (calls : Calls) (called_type
       step_typed names rets taken.0 (made_of.0 ∷ []) args (to ∷ []) _ (reads_given names args taken.0 taken.1)
       (one_name names to made_of.0 made_of.2) (computed op taken.0 made_of.0 at made_of.1)
   by_case (c.Extent to of axis) f =
-      let a = array_named_given of _ (and_left (given_types (array_named names of) _) (has_type names to (Some (Int64, 0))) f) in
+      let a = array_named_given of _ (and_left (given_types (array_named names of) _)
+      (has_type names to (Some (Int64, 0))) f) in
       step_typed names rets (a.0 ∷ []) ((Int64, 0) ∷ []) (oper.Name of ∷ []) (to ∷ []) _ (a.1, tt)
       (one_name names to (Int64, 0) (one_given (slice_get names to) (Int64, 0)
       (and_right (given_types (array_named names of) _) (has_type names to (Some (Int64, 0))) f)))
@@ -302,7 +306,8 @@ module _ (heads : List Head) (rets names : List Ty) (calls : Calls) (called_type
       step_typed names rets (a.0 ∷ v.0 ∷ []) [] (oper.Name of ∷ value ∷ index) [] _ (a.1, (v.1, tt)) tt
       (written a.0 v.0 at a.2 (and_right (is_array a.0 && is_scalar v.0) (may_store a.0.0 v.0.0) v.2))
   by_case (c.Pick to of subs at) f =
-      let a = array_named_given of _ (and_left (given_types (array_named names of) _) (list_all (sub_fits names) subs) f)
+      let a = array_named_given of _ (and_left (given_types (array_named names of) _) (list_all (sub_fits names) subs)
+      f)
       in
       let u = typed_name names to (pick_type a.0 subs) a.3 in
       step_typed names rets (a.0 ∷ []) (u.0 ∷ []) (oper.Name of ∷ flat_map sub_operands subs) (to ∷ []) _

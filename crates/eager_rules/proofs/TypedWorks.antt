@@ -32,7 +32,8 @@ use Rattle.eager_rules.proofs.Typed.{scalar_word, held_word, held_words, gives_w
 use Rattle.eager_rules.proofs.Typed.{gives_new, gives_nothing}
 use Rattle.eager_rules.specs.Fits.{IsOfKind}
 use Rattle.eager_rules.specs.Types.{Ty, same_kind, same_type, same_types, is_array, bin_kind, un_kind, select_kind}
-use Rattle.eager_rules.specs.Types.{with_rank, with_array_rank, word_type, map_type, reduce_type, reduce_kind, may_store}
+use Rattle.eager_rules.specs.Types.{with_rank, with_array_rank, word_type, map_type, reduce_type, reduce_kind}
+use Rattle.eager_rules.specs.Types.{may_store}
 use Rattle.eager_rules.specs.Types.{fresh_fits}
 use Rattle.eager_rules.specs.Works.{Work, word_of, array_in, move_work, word_work, extent_work, get_work, put_work}
 use Rattle.eager_rules.specs.Works.{pick_work, flip_work, fresh_work, map_work, reduce_work, store_work, as_array}
@@ -94,7 +95,8 @@ written_by rows kind buffers at buffer z (Ok place) held lies p =
     (rows, extends_refl rows, held_word rows buffers kind buffer place z held lies p, tt)
 written_by rows kind buffers at buffer z (Err fault) held lies p = (rows, extends_refl rows, held)
 
-pub written : (t v : Ty) (at : Loc) → is_array t ≡ true → may_store t.0 v.0 ≡ true → WorkOf (t ∷ v ∷ []) [] (put_work at)
+pub written : (t v : Ty) (at : Loc) → is_array t ≡ true → may_store t.0 v.0 ≡ true →
+    WorkOf (t ∷ v ∷ []) [] (put_work at)
 written t v at h k rows [] buffers held given = gives_nothing rows [] buffers held
 written t v at h k rows (x ∷ []) buffers held given = gives_nothing rows [] buffers held
 written t v at h k rows (x ∷ y ∷ index) buffers held given =
@@ -190,7 +192,8 @@ made fill dims t at h rows values buffers held given =
     (λ ns. filled_fits fill dims t (element_count ns) h)
 
 -- the kind behind a rank
-ranked : (rank : ℕ) (o : Option Kind) (t : Ty) → with_rank rank o ≡ Some t → (kind : Kind) × (o ≡ Some kind) × ((kind, rank) ≡ t)
+ranked : (rank : ℕ) (o : Option Kind) (t : Ty) → with_rank rank o ≡ Some t →
+    (kind : Kind) × (o ≡ Some kind) × ((kind, rank) ≡ t)
 ranked rank None t h = none_some t h
 ranked rank (Some kind) t h = (kind, refl, some_same (kind, rank) t h)
 

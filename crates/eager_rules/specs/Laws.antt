@@ -1,17 +1,23 @@
 -- Laws of stores, reads and operations, in NumPy's own words.
-use Rattle.std.specs.Prelude.{◌≡◌, ℕ, ◌<◌, ◌≤◌, ℤ, Bool, true, false, List, length, map, slice_index, slice_get, Some}
+use Rattle.std.specs.Prelude.{◌≡◌, ℕ, ◌<◌, ◌≤◌, ℤ, Bool, true, false, List, [], ◌∷◌, ◌++◌, length, map, slice_index}
+use Rattle.std.specs.Prelude.{slice_get, Some}
+use Rattle.std.specs.List.{AllByRecursion, flat_map}
 use Rattle.array_ops.specs.Arrays.{elements_at, with_words, word_at, words_of}
 use Rattle.array_ops.specs.Elements.{Bound}
 use Rattle.eager_rules.specs.Blocks.{End, Stuck}
 use Rattle.eager_rules.specs.Eager.{Calls, block, calls_at, entered, work_of}
 use Rattle.eager_rules.specs.Kept.{FitsInstance}
 use Rattle.eager_rules.specs.Outcome.{buffers_of, instance_outcome}
-use Rattle.eager_rules.specs.State.{State, bound_to}
+use Rattle.eager_rules.specs.State.{State, bound_of, bound_to}
+use Rattle.eager_rules.specs.Statements.{blocks_of, reads_of}
 use Rattle.eager_rules.specs.Works.{Done, Made, Failed, Blocked}
 use Rattle.eager_rules.specs.declared.call.Call.{Call}
 use Rattle.eager_rules.specs.declared.program.Instance.{Instance}
+use Rattle.eager_rules.specs.declared.program.Oper.{Oper}
+use Rattle.eager_rules.specs.declared.program.Oper.TheVariants as oper
 use Rattle.eager_rules.specs.declared.program.Program.{Program}
 use Rattle.eager_rules.specs.declared.program.Core.{Core}
+use Rattle.eager_rules.specs.declared.program.Core.TheFolds.{fold-Core}
 use Rattle.eager_rules.specs.declared.program.Core.TheOpen as c
 
 -- reading the places of a store gives what was stored
@@ -67,3 +73,29 @@ abbrev pub IsNeverStuck : Program → Type 0
 IsNeverStuck program =
     (number : ℕ) (f : Instance) (call : Call) → slice_get program.instances number ≡ Some f → FitsInstance f call →
     (run_of program f call).1 ≡ Stuck → ⊥
+
+-- the name that an operand reads, if it is one
+abbrev pub name_of : Oper → List ℕ
+name_of (oper.Int z) = []
+name_of (oper.Truth b) = []
+name_of (oper.Name name) = name ∷ []
+
+-- the names that a block reads, those of inner blocks among them
+abbrev pub read_step : c.Core-F (List ℕ) → List ℕ
+read_step y = flat_map name_of (reads_of y) ++ flat_map (λ names. names) (blocks_of y)
+
+abbrev pub names_read : List Core → List ℕ
+names_read body = flat_map (fold-Core (List ℕ) read_step) body
+
+-- two states with the same buffers and as many names, which agree on these
+pub record AgreeOn (names : List ℕ) (s t : State) : Type 0 where
+  pub buffers : s.buffers ≡ t.buffers
+  pub size : length s.names ≡ length t.names
+  pub named : AllByRecursion (λ name. bound_of s name ≡ bound_of t name) names
+
+-- The end of a block, with its values or its fault, and the buffers it leaves depend on no names but those it reads.
+abbrev pub ReadsNoOthers : Calls → List Core → Type 0
+ReadsNoOthers calls body =
+    (s t : State) → AgreeOn (names_read body) s t →
+    ((block calls body s).1 ≡ (block calls body t).1) ×
+    ((block calls body s).0.buffers ≡ (block calls body t).0.buffers)

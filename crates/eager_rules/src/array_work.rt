@@ -1,5 +1,5 @@
 // The work of statements on arrays. Each function's clause is its line of the definition.
-ghost use Rattle.std.specs.Prelude.{◌≡◌, ◌∷◌, ℤ, List, Ok, IfOk};
+ghost use Rattle.std.specs.Prelude.{◌≡◌, ◌∷◌, [], ℤ, List, Ok, IfOk};
 ghost use Rattle.array_ops.specs.Arrays.{array_of, with_word, word_at};
 ghost use Rattle.array_ops.specs.Elements.{WordOf};
 ghost use Rattle.array_ops.specs.Operands.{meaning_of};
@@ -7,7 +7,7 @@ ghost use Rattle.array_ops.specs.Subscripts.{and_then, element_place, picked};
 ghost use Rattle.eager_rules.specs.Running.{done_by, meanings};
 ghost use Rattle.eager_rules.specs.Works.{as_array, changed, flip_work, get_work, put_work, valued, word_of};
 
-use crate::frame::{array, words};
+use crate::frame::{array, word, words};
 use crate::state::Worked;
 use array_ops::{Operand, Subscript, element_place, flip, pick, set_word, word_at};
 use krn_base::{Fault, Loc, NoMemory, Seq};
@@ -30,6 +30,14 @@ pub fn get(
             Ok(element(at, &array(value), index.as_slice(), buffers))
         }
     }
+}
+
+/// One element read by one subscript.
+pub fn get_one(at: Loc, value: &Operand, index: &Operand, buffers: &[Seq<i64>]) -> Worked
+    ensures { done_by buffers.now result ≡
+        get_work at (meaning_of value.now ∷ meaning_of index.now ∷ []) buffers.now }
+{
+    element(at, &array(value), &[word(index)], buffers)
 }
 
 /// The element of an array at an index for each dimension, or a fault.

@@ -1,8 +1,9 @@
 // Laws of evaluation.
-ghost use Rattle.std.specs.Prelude.{◌≡◌, ◌<◌, ◌≤◌, false, length, true};
+ghost use Rattle.std.specs.Prelude.{List, ◌≡◌, ◌<◌, ◌≤◌, false, length, true};
 ghost use Rattle.array_ops.specs.Arrays.{words_of};
 ghost use Rattle.eager_rules.specs.Eager.{Calls};
-ghost use Rattle.eager_rules.specs.Laws.{IsDeepEnough, IsNeverStuck, KeepsOthers, LeavesBuffers, ReadsWhatWasStored, may_change};
+ghost use Rattle.eager_rules.specs.Laws.{IsDeepEnough, IsNeverStuck, KeepsOthers, LeavesBuffers, ReadsNoOthers};
+ghost use Rattle.eager_rules.specs.Laws.{ReadsWhatWasStored, may_change};
 ghost use Rattle.eager_rules.specs.declared.program.Core.TheOpen as c;
 ghost use Rattle.eager_rules.specs.declared.program.Core.{Core as AnyCore};
 ghost use Rattle.view_places.specs.View.{places};
@@ -46,4 +47,9 @@ pub fn calls_end(program: &Program)
 pub fn sound_is_never_stuck(program: &Program)
     requires sound { IsSound program.now }
     ensures ends { IsNeverStuck program.now }
+{}
+
+/// A block ends in the same way, with the same buffers, whatever the names that it doesn't read stand for.
+pub fn unread_names_change_nothing()
+    ensures { (calls : Calls) (body : List AnyCore) → ReadsNoOthers calls body }
 {}

@@ -25,7 +25,7 @@ pub use call::{Arg, Call};
 pub use evaluation::eager;
 pub use laws::{
     calls_end, operations_leave_buffers, sound_is_never_stuck, stores_are_read,
-    typed_has_small_powers,
+    typed_has_small_powers, unread_names_change_nothing,
 };
 pub use outcome::{Counts, Outcome, Value};
 pub use program::{Core, CoreSub, Instance, Oper, Program, WordOp};

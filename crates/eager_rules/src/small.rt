@@ -1,6 +1,7 @@
 // The test of what `eager` asks of a program.
 ghost use Rattle.std.specs.Prelude.{◌≡◌};
-ghost use Rattle.eager_rules.specs.Small.{all_small, bodies_small, is_small, is_small_map, is_small_power, is_small_word};
+ghost use Rattle.eager_rules.specs.Small.{all_small, bodies_small, is_small, is_small_map, is_small_power};
+ghost use Rattle.eager_rules.specs.Small.{is_small_word};
 
 use crate::program::{Core, Instance, Program, WordOp};
 use array_ops::MapOp;

@@ -10,17 +10,49 @@ ghost use Rattle.eager_rules.specs.Works.{extent_work, flip_work, fresh_work, ge
 ghost use Rattle.eager_rules.specs.Works.{move_work, pick_work, put_work};
 ghost use Rattle.eager_rules.specs.Works.{reduce_work, store_work, sub_operands, word_work};
 ghost use Rattle.eager_rules.specs.declared.program.Oper.TheVariants.{Name};
+ghost use Rattle.eager_rules.specs.declared.program.WordOp.TheVariants.{Bin};
 
-use crate::frame::{finish, is_ready, read_all};
+use crate::frame::{finish, is_ready, read, read_all};
 use crate::program::{CoreSub, Oper, WordOp};
 use crate::state::{Ending, State};
 use crate::{array_work, fresh_work, map_work, subscripts, work};
 use array_ops::{Fill, MapOp, RedOp};
-use krn_base::{Loc, NoMemory, Seq};
+use krn_base::{BinOp, Loc, NoMemory, Seq};
 use std::alloc::Global;
 
 /// A scalar operation, or a move.
 pub fn word(
+    alloc: Global,
+    to: u32,
+    op: WordOp,
+    args: &[Oper],
+    at: Loc,
+    state: &mut State,
+) -> Result<Ending, NoMemory>
+    requires { is_small_word op ≡ true }
+    ensures { IfOk result (λ e. (state_of state.new, end_of e) ≡
+        step args.now (to ∷ []) (word_work op at) (state_of state.old)) }
+{
+    match (op, args) {
+        (WordOp::Bin(op), [a, b]) => Ok(word_of_two(to, op, *a, *b, at, state)),
+        _ => word_of_all(alloc, to, op, args, at, state),
+    }
+}
+
+/// A scalar operation on two words. It makes no list.
+fn word_of_two(to: u32, op: BinOp, a: Oper, b: Oper, at: Loc, state: &mut State) -> Ending
+    ensures { (state_of state.new, end_of result) ≡
+        step (a ∷ b ∷ []) (to ∷ []) (word_work (Bin op) at) (state_of state.old) }
+{
+    if !is_ready(state, &[a, b], &[to]) {
+        return Ending::Stuck;
+    }
+    let worked = work::two_words(op, at, &read(state, &a), &read(state, &b));
+    finish(state, &[to], worked)
+}
+
+/// A scalar operation on a list of words, or a move.
+fn word_of_all(
     alloc: Global,
     to: u32,
     op: WordOp,
@@ -82,6 +114,42 @@ pub fn extent(
 
 /// One element read.
 pub fn get(
+    alloc: Global,
+    to: u32,
+    of: u32,
+    index: &[Oper],
+    at: Loc,
+    state: &mut State,
+) -> Result<Ending, NoMemory>
+    ensures { IfOk result (λ e. (state_of state.new, end_of e) ≡
+        step (Name of ∷ index.now) (to ∷ []) (get_work at) (state_of state.old)) }
+{
+    match index {
+        [i] => Ok(get_by_one(to, of, *i, at, state)),
+        _ => get_by_all(alloc, to, of, index, at, state),
+    }
+}
+
+/// One element read by one subscript. It makes no list.
+fn get_by_one(to: u32, of: u32, i: Oper, at: Loc, state: &mut State) -> Ending
+    ensures { (state_of state.new, end_of result) ≡
+        step (Name of ∷ i ∷ []) (to ∷ []) (get_work at) (state_of state.old) }
+{
+    let reads = [Oper::Name(of), i];
+    if !is_ready(state, &reads, &[to]) {
+        return Ending::Stuck;
+    }
+    let worked = array_work::get_one(
+        at,
+        &read(state, &Oper::Name(of)),
+        &read(state, &i),
+        state.buffers.as_slice(),
+    );
+    finish(state, &[to], worked)
+}
+
+/// One element read by any number of subscripts.
+fn get_by_all(
     alloc: Global,
     to: u32,
     of: u32,

@@ -1,16 +1,18 @@
 // The work of statements on the values of their operands. Each function's clause is its line of the definition.
-ghost use Rattle.std.specs.Prelude.{◌≡◌, ℤ, List, IfOk, true};
+ghost use Rattle.std.specs.Prelude.{◌≡◌, ◌∷◌, [], ℤ, List, IfOk, true};
 ghost use Rattle.array_ops.specs.Arrays.{array_of};
+ghost use Rattle.array_ops.specs.Operands.{meaning_of};
 ghost use Rattle.eager_rules.specs.Running.{done_by, meanings};
 ghost use Rattle.eager_rules.specs.Small.{is_small_word};
 ghost use Rattle.eager_rules.specs.Works.{as_word, extent_of, extent_work, move_work, valued, word_work};
 ghost use Rattle.eager_rules.specs.Works.{word_result};
+ghost use Rattle.eager_rules.specs.declared.program.WordOp.TheVariants.{Bin};
 
-use crate::frame::{array, words};
+use crate::frame::{array, word, words};
 use crate::program::WordOp;
 use crate::state::Worked;
 use array_ops::Operand;
-use krn_base::{Fault, Loc, NoMemory, scalar_op, un_op};
+use krn_base::{BinOp, Fault, Loc, NoMemory, scalar_op, un_op};
 use std::alloc::Global;
 use view_places::View;
 
@@ -44,6 +46,14 @@ fn scalar(op: WordOp, args: &[i64]) -> Result<i64, Fault>
         (WordOp::Un(un), [a]) => Ok(un_op(un, *a)),
         _ => Ok(0),
     }
+}
+
+/// A scalar operation on two words.
+pub fn two_words(op: BinOp, at: Loc, a: &Operand, b: &Operand) -> Worked
+    ensures { (buffers : List (List ℤ)) → done_by buffers result ≡
+        word_work (Bin op) at (meaning_of a.now ∷ meaning_of b.now ∷ []) buffers }
+{
+    word_or_fault(scalar_op(op, word(a), word(b)), at)
 }
 
 /// A scalar operation, or a move.
