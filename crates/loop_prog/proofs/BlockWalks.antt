@@ -32,7 +32,8 @@ left_done n k all (same, count) = let number : n ≡ k + length all = omega (ari
 -- the statement with the number i, where `here` is its place
 module _ (kernel : Kernel) (body : List Statement) (s : Statement) (i : ℕ) (site here : Site) (paths : Paths) (n k : ℕ)
     (all : List Kept) (is : drop i body ≡ s ∷ drop (i + 1) body)
-    (place : here ≡ placed site (nat_eq (i + 1) (length body))) (within : (i + 1) + length (drop (i + 1) body) ≡ length body)
+    (place : here ≡ placed site (nat_eq (i + 1) (length body)))
+    (within : (i + 1) + length (drop (i + 1) body) ≡ length body)
     (left : Left n (block_by kernel (drop i body) site paths) k all) where
   at : before_rest site (drop (i + 1) body) ≡ here
   at = sym (place ∙ placed_as site (drop (i + 1) body) (i + 1) (length body) within)

@@ -16,7 +16,8 @@ use Rattle.loop_prog.specs.declared.program.Statement.TheOpen as l
 use Rattle.loop_prog.specs.declared.program.Statement.TheFolds.{map-Statement, para-roll-Statement}
 use Rattle.loop_prog.specs.declared.program.Statement.TheViews.{roll-Statement, roll-out-Statement}
 
-same_site : {A B : Type 0} (f : A → B) (site : Site) (rest : List A) → before_rest site (map f rest) ≡ before_rest site rest
+same_site : {A B : Type 0} (f : A → B) (site : Site) (rest : List A) →
+    before_rest site (map f rest) ≡ before_rest site rest
 same_site f site [] = refl
 same_site f site (next ∷ rest) = refl
 
@@ -62,13 +63,15 @@ opened kernel (l.Check test views at) site paths = refl
 opened kernel (l.Nest to template at) site paths = refl
 opened kernel (l.Fold to join template at) site paths = refl
 opened kernel (l.If cond part other) site paths =
-    ap₂ (λ (a b : Bool). kept_if kernel site paths cond part other a b ∷ inner_by kernel (l.If cond part other) site paths)
+    ap₂ (λ (a b : Bool). kept_if kernel site paths cond part other a b ∷
+    inner_by kernel (l.If cond part other) site paths)
     (some_mapped kernel part) (some_mapped kernel other)
 opened kernel (l.For var lo hi by at body) site paths =
     ap (λ (statements : List Statement). kept_at kernel site paths (l.For var lo hi by at body) ∷
     block_by kernel body (deeper site false) (body_start var (block_flow statements) paths)) (firsts kernel body)
 opened kernel (l.ParFor var lo hi by at guard reductions privates body) site paths =
-    ap (λ (statements : List Statement). kept_at kernel site paths (l.ParFor var lo hi by at guard reductions privates body) ∷
+    ap (λ (statements : List Statement).
+    kept_at kernel site paths (l.ParFor var lo hi by at guard reductions privates body) ∷
     block_by kernel body (deeper site false) (body_start var (block_flow statements) paths)) (firsts kernel body)
 opened kernel (l.Release v) site paths = refl
 opened kernel (l.Return values) site paths = refl
@@ -80,7 +83,8 @@ found_rolled kernel y site paths =
     opened kernel y site paths
 
 pub findings_are : (kernel : Kernel) (s : Statement) (site : Site) (paths : Paths) →
-    findings kernel s site paths ≡ kept_at kernel site paths (out-Statement s) ∷ inner_by kernel (out-Statement s) site paths
+    findings kernel s site paths ≡
+    kept_at kernel site paths (out-Statement s) ∷ inner_by kernel (out-Statement s) site paths
 findings_are kernel s site paths =
     subst (λ (x : Statement). findings kernel x site paths ≡
     kept_at kernel site paths (out-Statement s) ∷ inner_by kernel (out-Statement s) site paths)

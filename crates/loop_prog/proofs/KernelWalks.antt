@@ -11,7 +11,8 @@ use Rattle.loop_prog.specs.Paths.{at_start, flow}
 use Rattle.loop_prog.specs.declared.kept.Site.{Site}
 use Rattle.loop_prog.specs.declared.paths.Paths.{Paths}
 use Rattle.loop_prog.specs.declared.program.Statement.{Statement, out-Statement}
-use Rattle.loop_prog.specs.Check.{both_keep, broken_or, first_broken, first_flaw, flaw_or, kernel_findings, kernels_findings}
+use Rattle.loop_prog.specs.Check.{both_keep, broken_or, first_broken, first_flaw, flaw_or, kernel_findings}
+use Rattle.loop_prog.specs.Check.{kernels_findings}
 use Rattle.loop_prog.specs.Check.{with_own}
 use Rattle.loop_prog.specs.Judging.{IsFlaw, Judged, Left}
 use Rattle.loop_prog.specs.declared.invalid.CheckStop.{CheckStop}
@@ -98,7 +99,8 @@ module _ (earlier : List Kernel) (kernel : Kernel) (own kept : Kept) (first : St
 
   before : before_rest whole rest ≡ here
   before =
-      let size : 1 + length rest ≡ length body = let e : length body ≡ length (first ∷ rest) = ap length is in omega (arith, e) in
+      let e : length body ≡ length (first ∷ rest) = ap length is in
+      let size : 1 + length rest ≡ length body = omega (arith, e) in
       sym (place ∙ placed_as whole rest 1 (length body) size)
 
   begins : block_by kernel body whole start ≡ kept ∷ more

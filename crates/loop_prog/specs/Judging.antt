@@ -1,5 +1,6 @@
 -- What the code's own values stand for, and what a walk over statements comes to.
-use Rattle.std.specs.Prelude.{◌≡◌, ℕ, ◌+◌, Bool, true, false, List, [], ◌++◌, map, length, reverse, Option, Some, None, Result, Ok, Err}
+use Rattle.std.specs.Prelude.{◌≡◌, ℕ, ◌+◌, Bool, true, false, List, [], ◌++◌, map, length, reverse}
+use Rattle.std.specs.Prelude.{Option, Some, None, Result, Ok, Err}
 use Rattle.krn_base.specs.declared.kind.Kind.{Kind}
 use Rattle.loop_prog.specs.Check.{Findings, block_findings, deeper, first_flaw, with_findings}
 use Rattle.loop_prog.specs.Conditions.{Stack, Kinds, Wrong, Short}

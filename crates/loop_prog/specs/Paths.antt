@@ -1,6 +1,6 @@
 -- Which registers are assigned wherever a path comes to a place. A list of tests has one for each register: those of
--- scalar ones at the even places, those of view ones at the odd ones. Where no path comes, as behind a Return, the place
--- isn't reached, and nothing is asked.
+-- scalar ones at the even places, those of view ones at the odd ones. Where no path comes, as behind a Return, the
+-- place isn't reached, and nothing is asked.
 use Rattle.std.specs.Prelude.{ℕ, ◌+◌, ◌*◌, ◌&&◌, Bool, true, false, max, List, [], ◌∷◌, map, length, replicate}
 use Rattle.std.specs.Prelude.{slice_index_or, slice_set, not, ◌||◌, if◌then◌else◌}
 use Rattle.std.specs.List.{list_all, zip}

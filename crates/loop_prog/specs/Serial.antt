@@ -9,7 +9,8 @@ use Rattle.krn_base.specs.declared.kind.Kind.TheVariants.{Int64}
 use Rattle.krn_base.specs.declared.kind.ParamType.{ParamType}
 use Rattle.krn_base.specs.declared.kind.ParamType.TheVariants.{Scalar}
 use Rattle.array_ops.specs.Elements.{Bound, Unbound, WordOf}
-use Rattle.eager_rules.specs.Blocks.{Meaning, End, GoesOn, Returned, Faulted, Stuck, then_do, in_order, loop_over, choice}
+use Rattle.eager_rules.specs.Blocks.{Meaning, End, GoesOn, Returned, Faulted, Stuck, then_do, in_order}
+use Rattle.eager_rules.specs.Blocks.{loop_over, choice}
 use Rattle.eager_rules.specs.Outcome.{buffers_of, finished}
 use Rattle.eager_rules.specs.State.{bound_to}
 use Rattle.eager_rules.specs.Works.{Done, Made, Failed, Blocked, Work, array_in, word_of, move_work, word_work}
@@ -21,7 +22,8 @@ use Rattle.eager_rules.specs.declared.outcome.Counts.{Counts}
 use Rattle.eager_rules.specs.declared.outcome.Outcome.{Outcome}
 use Rattle.eager_rules.specs.declared.program.Oper.{Oper}
 use Rattle.loop_prog.specs.Guards.{guard_holds}
-use Rattle.loop_prog.specs.State.{State, back_value, bind, bind_all, count_loop, operand, unassigned, view, with_buffers}
+use Rattle.loop_prog.specs.State.{State, back_value, bind, bind_all, count_loop, operand, unassigned, view}
+use Rattle.loop_prog.specs.State.{with_buffers}
 use Rattle.loop_prog.specs.State.{with_counts}
 use Rattle.loop_prog.specs.Statements.{binds_of}
 use Rattle.loop_prog.specs.Works.{check_work, fold_to, like_work, nest}

@@ -1,7 +1,7 @@
 // What is assigned behind statements.
 ghost use Rattle.std.specs.Prelude.{◌≡◌, ◌∷◌, [], IfOk};
-ghost use Rattle.loop_prog.specs.Paths.{assign, block_flow, body_start, both_paths, both_slots, flow, head, kept_by, meet};
-ghost use Rattle.loop_prog.specs.Paths.{slot, with_slot};
+ghost use Rattle.loop_prog.specs.Paths.{assign, block_flow, body_start, both_paths, both_slots, flow, head};
+ghost use Rattle.loop_prog.specs.Paths.{kept_by, meet, slot, with_slot};
 ghost use Rattle.loop_prog.specs.declared.program.Reg.TheVariants as reg;
 
 use crate::paths::Paths;

@@ -2,7 +2,8 @@
 ghost use Rattle.std.specs.Prelude.{◌≡◌, length, map, max, nat_le};
 ghost use Rattle.std.specs.List.{list_all};
 ghost use Rattle.eager_rules.specs.Types.{removed, same_types};
-ghost use Rattle.loop_prog.specs.Conditions.{axis_fits, back_type, greatest, ranks_fit, some_views, subs_fit, view_rank};
+ghost use Rattle.loop_prog.specs.Conditions.{axis_fits, back_type, greatest, ranks_fit, some_views, subs_fit};
+ghost use Rattle.loop_prog.specs.Conditions.{view_rank};
 ghost use Rattle.loop_prog.specs.Templates.{leaves};
 ghost use Rattle.loop_prog.specs.declared.program.Statement.{out-Statement};
 

@@ -33,12 +33,14 @@ inspect_block-returns-in-Err t c =
     let is : drop i body ≡ s ∷ drop (i + 1) body =
     drop_more body i s lt ∙ ap (λ (x : Statement). x ∷ drop (i + 1) body) found in
     let place : c.placed-place.result ≡ placed c.args.site (nat_eq (i + 1) (length body)) =
-    c.placed-place.ensures ∙ ap (λ (j : ℕ). placed c.args.site (nat_eq (j + 1) (length body))) c.loop-statement.invariant.0 in
+    c.placed-place.ensures ∙
+    ap (λ (j : ℕ). placed c.args.site (nat_eq (j + 1) (length body))) c.loop-statement.invariant.0 in
     let size : length (drop (i + 1) body) ≡ length body - (i + 1) = length-drop (i + 1) body in
     let within : (i + 1) + length (drop (i + 1) body) ≡ length body = omega (arith, lt, size) in
     block_stops c.args.kernel.now body s i c.args.site c.placed-place.result c.loop-statement.paths
     c.loop-statement.number c.args.number.now (block_by c.args.kernel.now body c.args.site c.args.paths)
-    is place within c.loop-statement.invariant.1 c.in-Err.stop c.inspect.new.number c.inspect.new.number c.in-Err.ensures
+    is place within c.loop-statement.invariant.1 c.in-Err.stop c.inspect.new.number c.inspect.new.number
+    c.in-Err.ensures
 
 pub inspect_block-loop-statement-preserved : goal.inspect_block-loop-statement-preserved
 inspect_block-loop-statement-preserved t c =
@@ -50,7 +52,8 @@ inspect_block-loop-statement-preserved t c =
     let is : drop i body ≡ s ∷ drop (i + 1) body =
     drop_more body i s lt ∙ ap (λ (x : Statement). x ∷ drop (i + 1) body) found in
     let place : c.placed-place.result ≡ placed c.args.site (nat_eq (i + 1) (length body)) =
-    c.placed-place.ensures ∙ ap (λ (j : ℕ). placed c.args.site (nat_eq (j + 1) (length body))) c.loop-statement.invariant.0 in
+    c.placed-place.ensures ∙
+    ap (λ (j : ℕ). placed c.args.site (nat_eq (j + 1) (length body))) c.loop-statement.invariant.0 in
     let size : length (drop (i + 1) body) ≡ length body - (i + 1) = length-drop (i + 1) body in
     let within : (i + 1) + length (drop (i + 1) body) ≡ length body = omega (arith, lt, size) in
     let all : List Kept = block_by c.args.kernel.now body c.args.site c.args.paths in
