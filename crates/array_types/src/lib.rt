@@ -10,6 +10,8 @@ mod rows;
 mod shape;
 mod state;
 mod steps;
+#[cfg(test)]
+mod tests;
 mod walk;
 
 pub use modules::typed_terms;

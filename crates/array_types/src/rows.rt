@@ -326,7 +326,7 @@ fn unary(op: Operation, a: Ty) -> Option<Ty>
         Operation::Extent(k) => extent(a, k),
         Operation::Transpose | Operation::Copy => array(a),
         Operation::Reduce(op) => reduction(op, a),
-        Operation::FreshLike(_, kind) => like(kind, a),
+        Operation::FreshLike(_, kind, _) => like(kind, a),
         Operation::Arange => counting(a),
         _ => None,
     }
