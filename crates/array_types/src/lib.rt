@@ -3,7 +3,9 @@
 #![tactic(auto)]
 
 mod body;
+mod checked;
 mod cores;
+mod fitting;
 mod instances;
 mod modules;
 mod rows;
