@@ -1,14 +1,24 @@
 -- What a program's test says of it.
 use Rattle.std.proofs.Common.{arith, ◌≡◌, ◌<◌, ◌+◌, ◌++◌, ◌&&◌, ℕ, zero, suc, Bool, true, false, nat_lt, List, [], ◌∷◌}
-use Rattle.std.proofs.Common.{length, map, take, slice_get, Option, Some, None, append_assoc, append-nil, ap, ◌∙◌, sym}
-use Rattle.std.proofs.Common.{refl, subst}
+use Rattle.std.proofs.Common.{length, map, take, slice_get, Option, Some, None, append_assoc, append-nil, ap, ap₂, ◌∙◌}
+use Rattle.std.proofs.Common.{sym, refl, subst}
+use Rattle.std.proofs.lemmas.Bool.Decides.{Decides-ltb}
 use Rattle.std.proofs.lemmas.List.Elements.{All-from_recursion}
-use Rattle.std.specs.List.{All, AllByRecursion, list_all}
+use Rattle.std.proofs.lemmas.Option.{slice_get-map}
+use Rattle.std.specs.List.{All, AllByRecursion, list_all, flat_map}
+use Rattle.std.specs.Option.{option_map}
+use Rattle.krn_base.specs.declared.operation.Join.{Join}
+use Rattle.krn_base.specs.declared.place.Loc.{Loc}
 use Rattle.eager_rules.specs.Sound.{Head, head_of, all_fit, shape_of_body, returns_values, IsWellTyped, HasNoCycle}
 use Rattle.eager_rules.specs.Sound.{IsTyped, CallsBelow}
-use Rattle.eager_rules.specs.Statements.{calls_of}
+use Rattle.eager_rules.specs.Statements.{calls_of, calls_step}
 use Rattle.eager_rules.specs.Types.{Ty, add_type, same_types}
+use Rattle.eager_rules.specs.declared.program.Core.{Core}
+use Rattle.eager_rules.specs.declared.program.Core.TheFolds.{fold-Core, fold-roll-Core}
+use Rattle.eager_rules.specs.declared.program.Core.TheOpen as c
+use Rattle.eager_rules.specs.declared.program.Core.TheVariants as v
 use Rattle.eager_rules.specs.declared.program.Instance.{Instance}
+use Rattle.eager_rules.specs.declared.program.Oper.{Oper}
 use Rattle.eager_rules.specs.declared.program.Program.{Program}
 use Rattle.array_types.specs.Checked.{param_types, is_small, is_well_typed, height_in, is_lower, descend_from}
 use Rattle.array_types.specs.Checked.{is_checked}
@@ -41,6 +51,40 @@ together : (a b : Bool) → a ≡ true → b ≡ true → a && b ≡ true
 together true b h k = k
 together false b h k = h
 
+-- what callers see of an instance with this number
+pub heads_at : (instances : List Instance) (n : ℕ) →
+    slice_get (map head_of instances) n ≡ option_map head_of (slice_get instances n)
+heads_at instances n = slice_get-map head_of instances n
+
+-- the calls of a statement's blocks
+gathered : (xs : List Core) → flat_map (λ calls. calls) (map (fold-Core (List ℕ) calls_step) xs) ≡ calls_of xs
+gathered [] = refl
+gathered (x ∷ xs) = ap (λ (rest : List ℕ). fold-Core (List ℕ) calls_step x ++ rest) (gathered xs)
+
+flat_more : (xs ys : List (List ℕ)) → flat_map (λ calls. calls) (xs ++ ys) ≡
+    flat_map (λ calls. calls) xs ++ flat_map (λ calls. calls) ys
+flat_more [] ys = refl
+flat_more (x ∷ xs) ys =
+    ap (λ (rest : List ℕ). x ++ rest) (flat_more xs ys)
+    ∙ sym (append_assoc x (flat_map (λ calls. calls) xs) (flat_map (λ calls. calls) ys))
+
+pub calls_If : (cond : Oper) (part other : List Core) →
+    fold-Core (List ℕ) calls_step (v.If cond part other) ≡ calls_of part ++ calls_of other
+calls_If cond part other =
+    ap (fold-Core (List ℕ) calls_step) (sym (v.rolls-If cond part other))
+    ∙ fold-roll-Core (List ℕ) calls_step (c.If cond part other)
+    ∙ flat_more (map (fold-Core (List ℕ) calls_step) part) (map (fold-Core (List ℕ) calls_step) other)
+    ∙ ap₂ (λ (a b : List ℕ). a ++ b) (gathered part) (gathered other)
+
+pub calls_For : (var : ℕ) (lo hi by : Oper) (at : Loc) (omp : Option (List (Join × ℕ))) (body : List Core) →
+    fold-Core (List ℕ) calls_step (v.For var lo hi by at omp body) ≡ calls_of body
+calls_For var lo hi by at omp body =
+    ap (fold-Core (List ℕ) calls_step) (sym (v.rolls-For var lo hi by at omp body))
+    ∙ fold-roll-Core (List ℕ) calls_step (c.For var lo hi by at omp body)
+    ∙ gathered body
+
+pub ruleset calls_more = (calls_If, calls_For, append_assoc)
+
 -- where a test of each item holds, what it shows holds of all
 each : {A : Type 0} (test : A → Bool) (P : A → Type 0) → ((x : A) → test x ≡ true → P x) → (xs : List A) →
     list_all test xs ≡ true → AllByRecursion P xs
@@ -60,7 +104,7 @@ both_lists test (x ∷ xs) ys h k =
     (both_lists test xs ys (right (test x) (list_all test xs) h) k)
 
 below : (m n : ℕ) → nat_lt m n ≡ true → m < n
-below m n h = omega (arith, h)
+below m n h = (Decides-ltb m n).0 h
 
 well_typed : (heads : List Head) (f : Instance) → is_well_typed heads f ≡ true → IsWellTyped heads f
 well_typed heads f h =
@@ -85,8 +129,10 @@ calls_below : (heights : List ℕ) (k : ℕ) (instances : List Instance) (n : �
 calls_below heights k [] n f h at = absurd (let e : None ≡ Some f = at in cc)
 calls_below heights k (g ∷ rest) zero f h at =
     let same : g ≡ f = (let e : Some g ≡ Some f = at in cc) in
-    subst (λ (y : Instance). list_all (is_lower heights k) (calls_of y.body) ≡ true) same
-    (left (list_all (is_lower heights k) (calls_of g.body)) (descend_from (k + 1) heights rest) h)
+    let here : k ≡ 0 + k = omega arith in
+    subst (λ (m : ℕ). list_all (is_lower heights m) (calls_of f.body) ≡ true) here
+    (subst (λ (y : Instance). list_all (is_lower heights k) (calls_of y.body) ≡ true) same
+    (left (list_all (is_lower heights k) (calls_of g.body)) (descend_from (k + 1) heights rest) h))
 calls_below heights k (g ∷ rest) (suc n) f h at =
     let deeper : descend_from (k + 1) heights rest ≡ true =
     right (list_all (is_lower heights k) (calls_of g.body)) (descend_from (k + 1) heights rest) h in

@@ -2,3 +2,4 @@ pub mod Lists
 pub mod Equations
 pub mod Weights
 pub mod Checks
+pub mod Indexing

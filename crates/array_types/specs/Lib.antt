@@ -1,3 +1,4 @@
+pub mod Find
 pub mod Rows
 pub mod Walk
 pub mod Checked

@@ -49,7 +49,11 @@ fn is_well_typed(f: &Instance, instances: &[Instance], alloc: Global) -> Result<
     Ok((body && firsts) && (small && ends_well(rets, f.body.as_slice())))
 }
 
-fn are_well_typed(some: &[Instance], instances: &[Instance], alloc: Global) -> Result<bool, NoMemory>
+fn are_well_typed(
+    some: &[Instance],
+    instances: &[Instance],
+    alloc: Global,
+) -> Result<bool, NoMemory>
     ensures { IfOk result (λ b. b ≡ list_all (spec.is_well_typed (map sound.head_of instances.now)) some.now) }
 {
     for f in some {
@@ -62,11 +66,16 @@ fn are_well_typed(some: &[Instance], instances: &[Instance], alloc: Global) -> R
 
 /// The instances that a statement calls, behind others.
 #[cycle(calls)]
+#[tactic(auto, using(crate::proofs::Checks::calls_more, std::proofs::lemmas::Grind::common_steps))]
 fn add_calls(core: &Core, out: &mut Seq<u32>) -> Result<(), NoMemory>
     ensures { OnOk result (out.new ≡ out.old ++ fold-Core (List ℕ) statements.calls_step core.now) }
 {
     match core {
-        Core::Call { to: _, instance, args: _ } => {
+        Core::Call {
+            to: _,
+            instance,
+            args: _,
+        } => {
             out.push(*instance)?;
             Ok(())
         }
@@ -74,9 +83,15 @@ fn add_calls(core: &Core, out: &mut Seq<u32>) -> Result<(), NoMemory>
             add_all_calls(yes.as_slice(), out)?;
             add_all_calls(no.as_slice(), out)
         }
-        Core::For { var: _, lo: _, hi: _, step: _, at: _, omp: _, body } => {
-            add_all_calls(body.as_slice(), out)
-        }
+        Core::For {
+            var: _,
+            lo: _,
+            hi: _,
+            step: _,
+            at: _,
+            omp: _,
+            body,
+        } => { add_all_calls(body.as_slice(), out) }
         _ => Ok(()),
     }
 }
@@ -134,9 +149,7 @@ fn descend(alloc: Global, heights: &[u32], instances: &[Instance]) -> Result<boo
 }
 
 /// The least height above those of the called instances.
-fn above(heights: &[u32], calls: &[u32]) -> u32
-    ensures { (0 : ℕ) ≡ 0 }
-{
+fn above(heights: &[u32], calls: &[u32]) -> u32 {
     let mut height = 0;
     for callee in calls {
         height = height.max(height_in(heights, *callee as usize).min(LONGEST) + 1);
@@ -146,9 +159,7 @@ fn above(heights: &[u32], calls: &[u32]) -> u32
 
 /// Heights for the instances, by which calls descend where no chain of calls leads back. Each round of at most `LONGEST`
 /// goes once through the calls.
-fn heights_of(alloc: Global, instances: &[Instance]) -> Result<Seq<u32>, NoMemory>
-    ensures { (0 : ℕ) ≡ 0 }
-{
+fn heights_of(alloc: Global, instances: &[Instance]) -> Result<Seq<u32>, NoMemory> {
     let mut heights = Seq::new(alloc);
     for _round in 0..LONGEST {
         let mut next = Seq::new(alloc);

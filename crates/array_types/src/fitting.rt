@@ -1,18 +1,19 @@
 // Whether statements are well typed under a table of the names' types.
-ghost use Rattle.std.specs.Prelude.{◌≡◌, ◌&&◌, map, IfOk, Some, length, slice_get, ◌==◌};
+ghost use Rattle.std.specs.Prelude.{◌≡◌, ◌&&◌, ◌==◌, ◌∷◌, [], map, IfOk, Some, length, slice_get};
 ghost use Rattle.std.specs.List.{list_all};
 ghost use Rattle.krn_base.specs.declared.kind.Kind.TheVariants.{Int64};
 ghost use Rattle.array_types.specs.Checked.{param_types};
 ghost use Rattle.eager_rules.specs.Sound as spec;
 ghost use Rattle.eager_rules.specs.Types as core_types;
 ghost use Rattle.eager_rules.specs.declared.program.Oper.TheVariants as oper;
+ghost use Rattle.eager_rules.specs.declared.program.WordOp.TheVariants as word_op;
 
 use crate::instances::type_of_param;
 use crate::rows;
 use crate::state::Ty;
 use array_ops::{Fill, MapOp};
 use eager_rules::{Core, CoreSub, Instance, Oper, WordOp};
-use krn_base::{Join, Kind, NoMemory, ParamType, Seq, Text};
+use krn_base::{BinOp, Join, Kind, NoMemory, ParamType, Seq, Text, UnOp};
 use std::alloc::Global;
 
 const INT: Ty = (Kind::Int64, 0);
@@ -73,13 +74,37 @@ fn array_named(names: &[Ty], of: u32) -> Option<Ty>
 {
     match names.get(of as usize) {
         None => None,
-        Some(ty) => {
-            if rows::is_array(*ty) {
-                Some(*ty)
-            } else {
-                None
-            }
-        }
+        Some(ty) => { if rows::is_array(*ty) { Some(*ty) } else { None } }
+    }
+}
+
+/// An operator on two operands of these types, if both are scalars.
+fn scalar_pair(op: BinOp, a: Ty, b: Ty) -> Option<Ty>
+    ensures { result ≡ core_types.word_type (word_op.Bin op) (a ∷ b ∷ []) }
+{
+    match (a, b) {
+        ((a, 0), (b, 0)) => rows::with_rank(0, rows::bin_kind(op, a, b)),
+        _ => None,
+    }
+}
+
+/// An operation on an operand of this type, if it is a scalar.
+fn scalar(op: UnOp, a: Ty) -> Option<Ty>
+    ensures { result ≡ core_types.word_type (word_op.Un op) (a ∷ []) }
+{
+    match a {
+        (a, 0) => rows::with_rank(0, rows::un_kind(op, a)),
+        _ => None,
+    }
+}
+
+/// The type of a scalar.
+fn moved(a: Ty) -> Option<Ty>
+    ensures { result ≡ core_types.word_type word_op.Move (a ∷ []) }
+{
+    match a {
+        (a, 0) => Some((a, 0)),
+        _ => None,
     }
 }
 
@@ -88,15 +113,15 @@ fn word_type(op: WordOp, types: &[Ty]) -> Option<Ty>
 {
     match op {
         WordOp::Bin(op) => match types {
-            [(a, 0), (b, 0)] => rows::with_rank(0, rows::bin_kind(op, *a, *b)),
+            [a, b] => scalar_pair(op, *a, *b),
             _ => None,
         },
         WordOp::Un(op) => match types {
-            [(a, 0)] => rows::with_rank(0, rows::un_kind(op, *a)),
+            [a] => scalar(op, *a),
             _ => None,
         },
         WordOp::Move => match types {
-            [(a, 0)] => Some((*a, 0)),
+            [a] => moved(*a),
             _ => None,
         },
     }
@@ -275,12 +300,7 @@ fn same_as(types: Option<Seq<Ty>>, others: &[Ty]) -> bool
 }
 
 /// No names for the values of a call, or as many of their types.
-fn takes_values(
-    alloc: Global,
-    names: &[Ty],
-    to: &[u32],
-    rets: &[Ty],
-) -> Result<bool, NoMemory>
+fn takes_values(alloc: Global, names: &[Ty], to: &[u32], rets: &[Ty]) -> Result<bool, NoMemory>
     ensures { IfOk result (λ takes. takes ≡ spec.takes_values names.now to.now rets.now) }
 {
     match to {
@@ -293,7 +313,7 @@ fn takes_values(
     }
 }
 
-#[tactic(auto, using(std::proofs::lemmas::Option::slice_get_map))]
+#[tactic(auto, using(crate::proofs::Checks::heads_at, std::proofs::lemmas::Grind::common_steps))]
 fn call_fits(
     alloc: Global,
     names: &[Ty],
@@ -374,32 +394,63 @@ fn fits(
     ensures { IfOk result (λ fits. fits ≡ spec.fits (map spec.head_of instances.now) rets.now names.now core.now) }
 {
     match core {
-        Core::Word { to, op, args, at: _ } => {
+        Core::Word {
+            to,
+            op,
+            args,
+            at: _,
+        } => {
             let types = types_of(alloc, names, args.as_slice())?;
             Ok(word_fits(names, *to, *op, types))
         }
         Core::Extent { to, of, axis } => {
             Ok(extent_fits(array_named(names, *of), *axis) && has_type(names, *to, Some(INT)))
         }
-        Core::Get { to, of, index, at: _ } => {
+        Core::Get {
+            to,
+            of,
+            index,
+            at: _,
+        } => {
             let array = array_named(names, *of);
             Ok(get_fits(array, names, *to, index.as_slice()) && all_ints(names, index.as_slice()))
         }
-        Core::Put { of, index, value, at: _ } => {
+        Core::Put {
+            of,
+            index,
+            value,
+            at: _,
+        } => {
             let array = array_named(names, *of);
             let value = rows::type_of(names, *value);
             Ok(put_fits(array, index.as_slice(), value) && all_ints(names, index.as_slice()))
         }
-        Core::Pick { to, of, subs, at: _ } => {
+        Core::Pick {
+            to,
+            of,
+            subs,
+            at: _,
+        } => {
             let array = array_named(names, *of);
-            Ok(pick_fits(array, names, *to, subs.as_slice()) && rows::all_fit(names, subs.as_slice()))
+            Ok(
+                pick_fits(array, names, *to, subs.as_slice())
+                    && rows::all_fit(names, subs.as_slice()),
+            )
         }
         Core::Flip { to, of } => Ok(same_fits(array_named(names, *of), names, *to)),
         Core::Alias { to, of } => Ok(same_fits(array_named(names, *of), names, *to)),
-        Core::Fresh { to, dims, fill, at: _ } => {
-            Ok(fresh_fits(names, *to, *fill, dims.len()) && all_ints(names, dims.as_slice()))
-        }
-        Core::Map { to, op, args, at: _ } => {
+        Core::Fresh {
+            to,
+            dims,
+            fill,
+            at: _,
+        } => { Ok(fresh_fits(names, *to, *fill, dims.len()) && all_ints(names, dims.as_slice())) }
+        Core::Map {
+            to,
+            op,
+            args,
+            at: _,
+        } => {
             let types = types_of(alloc, names, args.as_slice())?;
             Ok(map_fits(names, *to, *op, types))
         }
@@ -422,7 +473,15 @@ fn fits(
             let no = all_fit(no.as_slice(), instances, rets, names, alloc)?;
             Ok(is_truth(rows::type_of(names, *cond)) && (yes && no))
         }
-        Core::For { var, lo, hi, step, at: _, omp, body } => {
+        Core::For {
+            var,
+            lo,
+            hi,
+            step,
+            at: _,
+            omp,
+            body,
+        } => {
             let body = all_fit(body.as_slice(), instances, rets, names, alloc)?;
             Ok(range_fits(names, *var, *lo, *hi, *step) && reduction_fits(names, omp) && body)
         }

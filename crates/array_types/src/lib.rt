@@ -7,6 +7,7 @@ mod checked;
 mod cores;
 mod fitting;
 mod instances;
+mod known;
 mod modules;
 mod rows;
 mod shape;
@@ -16,5 +17,6 @@ mod steps;
 mod tests;
 mod walk;
 
+pub use known::Known;
 pub use modules::typed_terms;
 pub use state::{Key, Range, Signature, State, Target, Ty, Value};

@@ -94,13 +94,7 @@ pub fn un_kind(op: UnOp, a: Kind) -> Option<Kind>
 {
     match op {
         UnOp::Neg | UnOp::Inv | UnOp::Abs => int_only(a),
-        UnOp::Pow(k) => {
-            if k <= 62 {
-                int_only(a)
-            } else {
-                None
-            }
-        }
+        UnOp::Pow(k) => { if k <= 62 { int_only(a) } else { None } }
         UnOp::Flip => match a {
             Kind::Int64 => None,
             Kind::Bool => Some(Kind::Bool),

@@ -17,103 +17,43 @@ use std::test::Fail;
 
 // `x = ..` with this expression: the types of the names that it makes, and its statements.
 static EXPRESSIONS: [(&str, &str); 114] = [
-    (
-        "i + 1",
-        "[(I, 0)] [Word 7, Bin(Add), [(0), Int(1)], @4:8]",
-    ),
-    (
-        "i - b",
-        "[(I, 0)] [Word 7, Bin(Sub), [(0), (1)], @4:8]",
-    ),
-    (
-        "b * i",
-        "[(I, 0)] [Word 7, Bin(Mul), [(1), (0)], @4:8]",
-    ),
+    ("i + 1", "[(I, 0)] [Word 7, Bin(Add), [(0), Int(1)], @4:8]"),
+    ("i - b", "[(I, 0)] [Word 7, Bin(Sub), [(0), (1)], @4:8]"),
+    ("b * i", "[(I, 0)] [Word 7, Bin(Mul), [(1), (0)], @4:8]"),
     (
         "True // i",
         "[(I, 0)] [Word 7, Bin(FloorDiv), [Truth(true), (0)], @4:11]",
     ),
-    (
-        "i % 7",
-        "[(I, 0)] [Word 7, Bin(Mod), [(0), Int(7)], @4:8]",
-    ),
-    (
-        "i << b",
-        "[(I, 0)] [Word 7, Bin(Shl), [(0), (1)], @4:8]",
-    ),
-    (
-        "b >> i",
-        "[(I, 0)] [Word 7, Bin(Shr), [(1), (0)], @4:8]",
-    ),
-    (
-        "v + i",
-        "[(I, 1)] [Map 7, Bin(Add), [(2), (0)], @4:8]",
-    ),
-    (
-        "b + v",
-        "[(I, 1)] [Map 7, Bin(Add), [(1), (2)], @4:8]",
-    ),
-    (
-        "v - w",
-        "[(I, 1)] [Map 7, Bin(Sub), [(2), (3)], @4:8]",
-    ),
-    (
-        "v * m",
-        "[(I, 2)] [Map 7, Bin(Mul), [(2), (4)], @4:8]",
-    ),
-    (
-        "m + v",
-        "[(I, 2)] [Map 7, Bin(Add), [(4), (2)], @4:8]",
-    ),
+    ("i % 7", "[(I, 0)] [Word 7, Bin(Mod), [(0), Int(7)], @4:8]"),
+    ("i << b", "[(I, 0)] [Word 7, Bin(Shl), [(0), (1)], @4:8]"),
+    ("b >> i", "[(I, 0)] [Word 7, Bin(Shr), [(1), (0)], @4:8]"),
+    ("v + i", "[(I, 1)] [Map 7, Bin(Add), [(2), (0)], @4:8]"),
+    ("b + v", "[(I, 1)] [Map 7, Bin(Add), [(1), (2)], @4:8]"),
+    ("v - w", "[(I, 1)] [Map 7, Bin(Sub), [(2), (3)], @4:8]"),
+    ("v * m", "[(I, 2)] [Map 7, Bin(Mul), [(2), (4)], @4:8]"),
+    ("m + v", "[(I, 2)] [Map 7, Bin(Add), [(4), (2)], @4:8]"),
     (
         "m // q",
         "[(I, 4)] [Map 7, Bin(FloorDiv), [(4), (6)], @4:8]",
     ),
-    (
-        "w % i",
-        "[(I, 1)] [Map 7, Bin(Mod), [(3), (0)], @4:8]",
-    ),
-    (
-        "p << v",
-        "[(I, 2)] [Map 7, Bin(Shl), [(5), (2)], @4:8]",
-    ),
-    (
-        "2 >> q",
-        "[(I, 4)] [Map 7, Bin(Shr), [Int(2), (6)], @4:8]",
-    ),
+    ("w % i", "[(I, 1)] [Map 7, Bin(Mod), [(3), (0)], @4:8]"),
+    ("p << v", "[(I, 2)] [Map 7, Bin(Shl), [(5), (2)], @4:8]"),
+    ("2 >> q", "[(I, 4)] [Map 7, Bin(Shr), [Int(2), (6)], @4:8]"),
     (
         "i + i * 2 - 1",
         "[(I, 0), (I, 0), (I, 0)] [Word 7, Bin(Mul), [(0), Int(2)], @4:12, Word 8, Bin(Add), [(0), (7)], @4:8, \
          Word 9, Bin(Sub), [(8), Int(1)], @4:16]",
     ),
-    (
-        "i & 3",
-        "[(I, 0)] [Word 7, Bin(And), [(0), Int(3)], @4:8]",
-    ),
+    ("i & 3", "[(I, 0)] [Word 7, Bin(And), [(0), Int(3)], @4:8]"),
     (
         "b & True",
         "[(B, 0)] [Word 7, Bin(And), [(1), Truth(true)], @4:8]",
     ),
-    (
-        "b | i",
-        "[(I, 0)] [Word 7, Bin(Or), [(1), (0)], @4:8]",
-    ),
-    (
-        "w ^ w",
-        "[(B, 1)] [Map 7, Bin(Xor), [(3), (3)], @4:8]",
-    ),
-    (
-        "w & v",
-        "[(I, 1)] [Map 7, Bin(And), [(3), (2)], @4:8]",
-    ),
-    (
-        "p | b",
-        "[(B, 2)] [Map 7, Bin(Or), [(5), (1)], @4:8]",
-    ),
-    (
-        "v ^ b",
-        "[(I, 1)] [Map 7, Bin(Xor), [(2), (1)], @4:8]",
-    ),
+    ("b | i", "[(I, 0)] [Word 7, Bin(Or), [(1), (0)], @4:8]"),
+    ("w ^ w", "[(B, 1)] [Map 7, Bin(Xor), [(3), (3)], @4:8]"),
+    ("w & v", "[(I, 1)] [Map 7, Bin(And), [(3), (2)], @4:8]"),
+    ("p | b", "[(B, 2)] [Map 7, Bin(Or), [(5), (1)], @4:8]"),
+    ("v ^ b", "[(I, 1)] [Map 7, Bin(Xor), [(2), (1)], @4:8]"),
     (
         "np.minimum(b, b)",
         "[(B, 0)] [Word 7, Bin(Min), [(1), (1)], @4:9]",
@@ -138,94 +78,31 @@ static EXPRESSIONS: [(&str, &str); 114] = [
         "max(3, i)",
         "[(I, 0)] [Word 7, Bin(Max), [Int(3), (0)], @4:6]",
     ),
-    (
-        "i == b",
-        "[(B, 0)] [Word 7, Bin(Eq), [(0), (1)], @4:8]",
-    ),
-    (
-        "b != b",
-        "[(B, 0)] [Word 7, Bin(Ne), [(1), (1)], @4:8]",
-    ),
-    (
-        "v < 0",
-        "[(B, 1)] [Map 7, Bin(Lt), [(2), Int(0)], @4:8]",
-    ),
-    (
-        "m <= v",
-        "[(B, 2)] [Map 7, Bin(Le), [(4), (2)], @4:8]",
-    ),
-    (
-        "w > w",
-        "[(B, 1)] [Map 7, Bin(Gt), [(3), (3)], @4:8]",
-    ),
+    ("i == b", "[(B, 0)] [Word 7, Bin(Eq), [(0), (1)], @4:8]"),
+    ("b != b", "[(B, 0)] [Word 7, Bin(Ne), [(1), (1)], @4:8]"),
+    ("v < 0", "[(B, 1)] [Map 7, Bin(Lt), [(2), Int(0)], @4:8]"),
+    ("m <= v", "[(B, 2)] [Map 7, Bin(Le), [(4), (2)], @4:8]"),
+    ("w > w", "[(B, 1)] [Map 7, Bin(Gt), [(3), (3)], @4:8]"),
     (
         "True >= i",
         "[(B, 0)] [Word 7, Bin(Ge), [Truth(true), (0)], @4:11]",
     ),
-    (
-        "-i",
-        "[(I, 0)] [Word 7, Un(Neg), [(0)], @4:6]",
-    ),
-    (
-        "-v",
-        "[(I, 1)] [Map 7, Un(Neg), [(2)], @4:6]",
-    ),
-    (
-        "+i",
-        "[(I, 0)] [Word 7, Bin(Add), [(0), Int(0)], @4:6]",
-    ),
-    (
-        "+m",
-        "[(I, 2)] [Map 7, Bin(Add), [(4), Int(0)], @4:6]",
-    ),
-    (
-        "abs(i)",
-        "[(I, 0)] [Word 7, Un(Abs), [(0)], @4:6]",
-    ),
-    (
-        "abs(v)",
-        "[(I, 1)] [Map 7, Un(Abs), [(2)], @4:6]",
-    ),
-    (
-        "np.abs(m)",
-        "[(I, 2)] [Map 7, Un(Abs), [(4)], @4:9]",
-    ),
-    (
-        "i ** 3",
-        "[(I, 0)] [Word 7, Un(Pow(3)), [(0)], @4:8]",
-    ),
-    (
-        "v ** 0",
-        "[(I, 1)] [Map 7, Un(Pow(0)), [(2)], @4:8]",
-    ),
-    (
-        "m ** 62",
-        "[(I, 2)] [Map 7, Un(Pow(62)), [(4)], @4:8]",
-    ),
-    (
-        "~i",
-        "[(I, 0)] [Word 7, Un(Inv), [(0)], @4:6]",
-    ),
-    (
-        "~v",
-        "[(I, 1)] [Map 7, Un(Inv), [(2)], @4:6]",
-    ),
-    (
-        "~p",
-        "[(B, 2)] [Map 7, Un(Flip), [(5)], @4:6]",
-    ),
-    (
-        "not b",
-        "[(B, 0)] [Word 7, Un(Flip), [(1)], @4:6]",
-    ),
-    (
-        "int(b)",
-        "[(I, 0)] [Word 7, Bin(Add), [(1), Int(0)], @4:6]",
-    ),
-    (
-        "int(i)",
-        "[(I, 0)] [Word 7, Bin(Add), [(0), Int(0)], @4:6]",
-    ),
+    ("-i", "[(I, 0)] [Word 7, Un(Neg), [(0)], @4:6]"),
+    ("-v", "[(I, 1)] [Map 7, Un(Neg), [(2)], @4:6]"),
+    ("+i", "[(I, 0)] [Word 7, Bin(Add), [(0), Int(0)], @4:6]"),
+    ("+m", "[(I, 2)] [Map 7, Bin(Add), [(4), Int(0)], @4:6]"),
+    ("abs(i)", "[(I, 0)] [Word 7, Un(Abs), [(0)], @4:6]"),
+    ("abs(v)", "[(I, 1)] [Map 7, Un(Abs), [(2)], @4:6]"),
+    ("np.abs(m)", "[(I, 2)] [Map 7, Un(Abs), [(4)], @4:9]"),
+    ("i ** 3", "[(I, 0)] [Word 7, Un(Pow(3)), [(0)], @4:8]"),
+    ("v ** 0", "[(I, 1)] [Map 7, Un(Pow(0)), [(2)], @4:8]"),
+    ("m ** 62", "[(I, 2)] [Map 7, Un(Pow(62)), [(4)], @4:8]"),
+    ("~i", "[(I, 0)] [Word 7, Un(Inv), [(0)], @4:6]"),
+    ("~v", "[(I, 1)] [Map 7, Un(Inv), [(2)], @4:6]"),
+    ("~p", "[(B, 2)] [Map 7, Un(Flip), [(5)], @4:6]"),
+    ("not b", "[(B, 0)] [Word 7, Un(Flip), [(1)], @4:6]"),
+    ("int(b)", "[(I, 0)] [Word 7, Bin(Add), [(1), Int(0)], @4:6]"),
+    ("int(i)", "[(I, 0)] [Word 7, Bin(Add), [(0), Int(0)], @4:6]"),
     (
         "b and True",
         "[(B, 0), (B, 0)] [Word 7, Move, [(1)], @0:0, If cond: (7), yes: [Word 7, Move, [Truth(true)], @0:0], \
@@ -262,78 +139,24 @@ static EXPRESSIONS: [(&str, &str); 114] = [
         "np.where(b, i, p)",
         "[(I, 2)] [Map 7, Select, [(1), (0), (5)], @4:9]",
     ),
-    (
-        "len(v)",
-        "[(I, 0)] [Extent 7, of: 2, axis: Some(0)]",
-    ),
-    (
-        "len(q)",
-        "[(I, 0)] [Extent 7, of: 6, axis: Some(0)]",
-    ),
-    (
-        "m.size",
-        "[(I, 0)] [Extent 7, of: 4, axis: None]",
-    ),
-    (
-        "q.shape[3]",
-        "[(I, 0)] [Extent 7, of: 6, axis: Some(3)]",
-    ),
-    (
-        "q.shape[-4]",
-        "[(I, 0)] [Extent 7, of: 6, axis: Some(0)]",
-    ),
-    (
-        "m.shape[-1]",
-        "[(I, 0)] [Extent 7, of: 4, axis: Some(1)]",
-    ),
-    (
-        "np.sum(m)",
-        "[(I, 0)] [Reduce 7, Sum, of: 4, @4:9]",
-    ),
-    (
-        "w.sum()",
-        "[(I, 0)] [Reduce 7, Sum, of: 3, @4:8]",
-    ),
-    (
-        "np.prod(m)",
-        "[(I, 0)] [Reduce 7, Prod, of: 4, @4:9]",
-    ),
-    (
-        "w.prod()",
-        "[(I, 0)] [Reduce 7, Prod, of: 3, @4:8]",
-    ),
-    (
-        "np.min(m)",
-        "[(I, 0)] [Reduce 7, Min, of: 4, @4:9]",
-    ),
-    (
-        "w.min()",
-        "[(B, 0)] [Reduce 7, Min, of: 3, @4:8]",
-    ),
-    (
-        "np.max(m)",
-        "[(I, 0)] [Reduce 7, Max, of: 4, @4:9]",
-    ),
-    (
-        "w.max()",
-        "[(B, 0)] [Reduce 7, Max, of: 3, @4:8]",
-    ),
-    (
-        "np.any(m)",
-        "[(B, 0)] [Reduce 7, Any, of: 4, @4:9]",
-    ),
-    (
-        "w.any()",
-        "[(B, 0)] [Reduce 7, Any, of: 3, @4:8]",
-    ),
-    (
-        "np.all(m)",
-        "[(B, 0)] [Reduce 7, All, of: 4, @4:9]",
-    ),
-    (
-        "w.all()",
-        "[(B, 0)] [Reduce 7, All, of: 3, @4:8]",
-    ),
+    ("len(v)", "[(I, 0)] [Extent 7, of: 2, axis: Some(0)]"),
+    ("len(q)", "[(I, 0)] [Extent 7, of: 6, axis: Some(0)]"),
+    ("m.size", "[(I, 0)] [Extent 7, of: 4, axis: None]"),
+    ("q.shape[3]", "[(I, 0)] [Extent 7, of: 6, axis: Some(3)]"),
+    ("q.shape[-4]", "[(I, 0)] [Extent 7, of: 6, axis: Some(0)]"),
+    ("m.shape[-1]", "[(I, 0)] [Extent 7, of: 4, axis: Some(1)]"),
+    ("np.sum(m)", "[(I, 0)] [Reduce 7, Sum, of: 4, @4:9]"),
+    ("w.sum()", "[(I, 0)] [Reduce 7, Sum, of: 3, @4:8]"),
+    ("np.prod(m)", "[(I, 0)] [Reduce 7, Prod, of: 4, @4:9]"),
+    ("w.prod()", "[(I, 0)] [Reduce 7, Prod, of: 3, @4:8]"),
+    ("np.min(m)", "[(I, 0)] [Reduce 7, Min, of: 4, @4:9]"),
+    ("w.min()", "[(B, 0)] [Reduce 7, Min, of: 3, @4:8]"),
+    ("np.max(m)", "[(I, 0)] [Reduce 7, Max, of: 4, @4:9]"),
+    ("w.max()", "[(B, 0)] [Reduce 7, Max, of: 3, @4:8]"),
+    ("np.any(m)", "[(B, 0)] [Reduce 7, Any, of: 4, @4:9]"),
+    ("w.any()", "[(B, 0)] [Reduce 7, Any, of: 3, @4:8]"),
+    ("np.all(m)", "[(B, 0)] [Reduce 7, All, of: 4, @4:9]"),
+    ("w.all()", "[(B, 0)] [Reduce 7, All, of: 3, @4:8]"),
     (
         "np.zeros(3, int)",
         "[(I, 1)] [Fresh 7, dims: [Int(3)], fill: Zero, @4:9]",
@@ -380,46 +203,16 @@ static EXPRESSIONS: [(&str, &str); 114] = [
         "np.arange(i, dtype=np.int64)",
         "[(I, 1)] [Fresh 7, dims: [(0)], fill: Count, @4:9]",
     ),
-    (
-        "np.copy(v)",
-        "[(I, 1)] [Map 7, Un(Copy), [(2)], @4:9]",
-    ),
-    (
-        "p.copy()",
-        "[(B, 2)] [Map 7, Un(Copy), [(5)], @4:8]",
-    ),
-    (
-        "m.T",
-        "[(I, 2)] [Flip 7, of: 4]",
-    ),
-    (
-        "w.T",
-        "[(B, 1)] [Flip 7, of: 3]",
-    ),
-    (
-        "v",
-        "[(I, 1)] [Alias 7, of: 2]",
-    ),
-    (
-        "i",
-        "[(I, 0)] [Word 7, Move, [(0)], @4:4]",
-    ),
-    (
-        "5",
-        "[(I, 0)] [Word 7, Move, [Int(5)], @4:4]",
-    ),
-    (
-        "False",
-        "[(B, 0)] [Word 7, Move, [Truth(false)], @4:4]",
-    ),
-    (
-        "v[0]",
-        "[(I, 0)] [Get 7, of: 2, index: [Int(0)], @4:7]",
-    ),
-    (
-        "w[i]",
-        "[(B, 0)] [Get 7, of: 3, index: [(0)], @4:7]",
-    ),
+    ("np.copy(v)", "[(I, 1)] [Map 7, Un(Copy), [(2)], @4:9]"),
+    ("p.copy()", "[(B, 2)] [Map 7, Un(Copy), [(5)], @4:8]"),
+    ("m.T", "[(I, 2)] [Flip 7, of: 4]"),
+    ("w.T", "[(B, 1)] [Flip 7, of: 3]"),
+    ("v", "[(I, 1)] [Alias 7, of: 2]"),
+    ("i", "[(I, 0)] [Word 7, Move, [(0)], @4:4]"),
+    ("5", "[(I, 0)] [Word 7, Move, [Int(5)], @4:4]"),
+    ("False", "[(B, 0)] [Word 7, Move, [Truth(false)], @4:4]"),
+    ("v[0]", "[(I, 0)] [Get 7, of: 2, index: [Int(0)], @4:7]"),
+    ("w[i]", "[(B, 0)] [Get 7, of: 3, index: [(0)], @4:7]"),
     (
         "v[-1]",
         "[(I, 0), (I, 0)] [Word 7, Un(Neg), [Int(1)], @4:8, Get 8, of: 2, index: [(7)], @4:7]",
@@ -432,10 +225,7 @@ static EXPRESSIONS: [(&str, &str); 114] = [
         "q[0, 1, 2, i]",
         "[(I, 0)] [Get 7, of: 6, index: [Int(0), Int(1), Int(2), (0)], @4:7]",
     ),
-    (
-        "m[0]",
-        "[(I, 1)] [Pick 7, of: 4, subs: [At(Int(0))], @4:7]",
-    ),
+    ("m[0]", "[(I, 1)] [Pick 7, of: 4, subs: [At(Int(0))], @4:7]"),
     (
         "m[1:]",
         "[(I, 2)] [Pick 7, of: 4, subs: [Cut(Some(Int(1)), None, None)], @4:7]",
@@ -495,18 +285,12 @@ static BODIES: [(&str, &str); 39] = [
         " x = i\n x += 1",
         "[(I, 0)] [Word 7, Move, [(0)], @4:4, Word 7, Bin(Add), [(7), Int(1)], @5:4]",
     ),
-    (
-        " i += b",
-        "[] [Word 0, Bin(Add), [(0), (1)], @4:4]",
-    ),
+    (" i += b", "[] [Word 0, Bin(Add), [(0), (1)], @4:4]"),
     (
         " b &= True",
         "[] [Word 1, Bin(And), [(1), Truth(true)], @4:4]",
     ),
-    (
-        " i = i * 2",
-        "[] [Word 0, Bin(Mul), [(0), Int(2)], @4:8]",
-    ),
+    (" i = i * 2", "[] [Word 0, Bin(Mul), [(0), Int(2)], @4:8]"),
     (
         " v += 1",
         "[(I, 1)] [Map 7, Bin(Add), [(2), Int(1)], @4:4, Store of: 2, value: (7), @4:4]",
@@ -515,10 +299,7 @@ static BODIES: [(&str, &str); 39] = [
         " w |= b",
         "[(B, 1)] [Map 7, Bin(Or), [(3), (1)], @4:4, Store of: 3, value: (7), @4:4]",
     ),
-    (
-        " v = m[0]",
-        "[] [Pick 2, of: 4, subs: [At(Int(0))], @4:7]",
-    ),
+    (" v = m[0]", "[] [Pick 2, of: 4, subs: [At(Int(0))], @4:7]"),
     (
         " m += v",
         "[(I, 2)] [Map 7, Bin(Add), [(4), (2)], @4:4, Store of: 4, value: (7), @4:4]",
@@ -577,10 +358,7 @@ static BODIES: [(&str, &str); 39] = [
         "[(I, 2), (I, 1)] [Flip 7, of: 4, Pick 8, of: 7, subs: [At(Int(0))], @4:5, Store of: 8, value: Int(1), \
          @4:9]",
     ),
-    (
-        " pass\n 'text'",
-        "[] []",
-    ),
+    (" pass\n 'text'", "[] []"),
     (
         " if b:\n  x = 1\n else:\n  x = 2",
         "[(I, 0)] [If cond: (1), yes: [Word 7, Move, [Int(1)], @5:5], no: [Word 7, Move, [Int(2)], @7:5]]",
@@ -623,22 +401,10 @@ static BODIES: [(&str, &str); 39] = [
         " #omp parallel for\n for k in range(3):\n  pass",
         "[(I, 0)] [For var: 7, lo: Int(0), hi: Int(3), step: Int(1), @5:11, omp: Some([]), body: []]",
     ),
-    (
-        " return",
-        "[] [Return values: []]",
-    ),
-    (
-        " return i, w",
-        "[] [Return values: [(0), (3)]]",
-    ),
-    (
-        " return (i,)",
-        "[] [Return values: [(0)]]",
-    ),
-    (
-        " return (i, v),",
-        "[] [Return values: [(0), (2)]]",
-    ),
+    (" return", "[] [Return values: []]"),
+    (" return i, w", "[] [Return values: [(0), (3)]]"),
+    (" return (i,)", "[] [Return values: [(0)]]"),
+    (" return (i, v),", "[] [Return values: [(0), (2)]]"),
     (
         " return (i + 1, 2)",
         "[(I, 0)] [Word 7, Bin(Add), [(0), Int(1)], @4:12, Return values: [(7), Int(2)]]",
@@ -685,35 +451,14 @@ static NO_ROW: [(&str, &str); 98] = [
     ("b and i", "Type 4:8"),
     ("w or b", "Type 4:8"),
     ("b or v", "Type 4:8"),
-    (
-        "i and b and b",
-        "Type 4:8",
-    ),
-    (
-        "np.where(i, v, v)",
-        "Type 4:9",
-    ),
-    (
-        "np.where(v, v, v)",
-        "Type 4:9",
-    ),
-    (
-        "np.where(b, i, 1)",
-        "Type 4:9",
-    ),
-    (
-        "np.where(b, b, b)",
-        "Type 4:9",
-    ),
-    (
-        "np.where(w, v)",
-        "Type 4:9",
-    ),
+    ("i and b and b", "Type 4:8"),
+    ("np.where(i, v, v)", "Type 4:9"),
+    ("np.where(v, v, v)", "Type 4:9"),
+    ("np.where(b, i, 1)", "Type 4:9"),
+    ("np.where(b, b, b)", "Type 4:9"),
+    ("np.where(w, v)", "Type 4:9"),
     ("np.minimum(v)", "Type 4:9"),
-    (
-        "np.maximum(i, i, i)",
-        "Type 4:9",
-    ),
+    ("np.maximum(i, i, i)", "Type 4:9"),
     ("len(i)", "Type 4:6"),
     ("len()", "Type 4:6"),
     ("len(v, v)", "Type 4:6"),
@@ -736,60 +481,24 @@ static NO_ROW: [(&str, &str); 98] = [
     ("np.min(3)", "Type 4:9"),
     ("np.sum(v, 0)", "Type 4:9"),
     ("v.sum(0)", "Type 4:8"),
-    (
-        "np.zeros(b, int)",
-        "Type 4:9",
-    ),
-    (
-        "np.zeros(v, int)",
-        "Type 4:9",
-    ),
-    (
-        "np.ones((i, b), int)",
-        "Type 4:9",
-    ),
-    (
-        "np.ones((1, 2, 3, 4, 5), int)",
-        "Type 4:9",
-    ),
-    (
-        "np.zeros(3, int, i)",
-        "Type 4:9",
-    ),
-    (
-        "np.empty(3, int, dtype=int)",
-        "Type 4:9",
-    ),
-    (
-        "np.zeros(i.shape, int)",
-        "Type 4:17",
-    ),
-    (
-        "np.ones((b < i).shape, dtype=bool)",
-        "Type 4:22",
-    ),
+    ("np.zeros(b, int)", "Type 4:9"),
+    ("np.zeros(v, int)", "Type 4:9"),
+    ("np.ones((i, b), int)", "Type 4:9"),
+    ("np.ones((1, 2, 3, 4, 5), int)", "Type 4:9"),
+    ("np.zeros(3, int, i)", "Type 4:9"),
+    ("np.empty(3, int, dtype=int)", "Type 4:9"),
+    ("np.zeros(i.shape, int)", "Type 4:17"),
+    ("np.ones((b < i).shape, dtype=bool)", "Type 4:22"),
     ("np.arange(b)", "Type 4:9"),
     ("np.arange(v)", "Type 4:9"),
-    (
-        "np.arange(i, i)",
-        "Type 4:9",
-    ),
+    ("np.arange(i, i)", "Type 4:9"),
     ("np.arange()", "Type 4:9"),
-    (
-        "np.arange(i, dtype=bool)",
-        "Type 4:9",
-    ),
-    (
-        "np.arange(i, dtype=np.bool_)",
-        "Type 4:9",
-    ),
+    ("np.arange(i, dtype=bool)", "Type 4:9"),
+    ("np.arange(i, dtype=np.bool_)", "Type 4:9"),
     ("np.copy(i)", "Type 4:9"),
     ("b.copy()", "Type 4:8"),
     ("v.copy(i)", "Type 4:8"),
-    (
-        "np.copy(v, v)",
-        "Type 4:9",
-    ),
+    ("np.copy(v, v)", "Type 4:9"),
     ("i.T", "Type 4:8"),
     ("i[0]", "Type 4:7"),
     ("b[0]", "Type 4:7"),
@@ -807,55 +516,28 @@ static NO_ROW: [(&str, &str); 98] = [
     ("v[v:]", "Type 4:7"),
     ("v[True]", "Type 4:7"),
     ("v[b + b]", "Type 4:10"),
-    (
-        "np.zeros(b + b, int)",
-        "Type 4:17",
-    ),
+    ("np.zeros(b + b, int)", "Type 4:17"),
     ("len(b + b)", "Type 4:12"),
     ("-(b + b)", "Type 4:10"),
     ("(b + b) + -b", "Type 4:9"),
-    (
-        "np.where(-b, b + b, v)",
-        "Type 4:15",
-    ),
-    (
-        "not (i and b)",
-        "Type 4:13",
-    ),
+    ("np.where(-b, b + b, v)", "Type 4:15"),
+    ("not (i and b)", "Type 4:13"),
     ("m[0](1)", "Type 4:10"),
     ("v.sum()(i)", "Type 4:13"),
-    (
-        "b and b and i",
-        "Type 4:14",
-    ),
+    ("b and b and i", "Type 4:14"),
 ];
 
 // Bodies of the function, and where they are refused.
 static REFUSED: [(&str, &str); 70] = [
     (" b += 1", "Retype 4:2"),
-    (
-        " x = True\n x += i",
-        "Retype 5:2",
-    ),
-    (
-        " x = 1\n x = b",
-        "Retype 5:2",
-    ),
-    (
-        " x = 1\n x = v",
-        "Retype 5:2",
-    ),
+    (" x = True\n x += i", "Retype 5:2"),
+    (" x = 1\n x = b", "Retype 5:2"),
+    (" x = 1\n x = v", "Retype 5:2"),
     (" i = v", "Retype 4:2"),
     (" v = m", "Retype 4:2"),
     (" v = v < 1", "Retype 4:2"),
-    (
-        " x = v\n if b:\n  x = w",
-        "Retype 6:3",
-    ),
-    (
-        " b = b and b\n b = 1",
-        "Retype 5:2",
-    ),
+    (" x = v\n if b:\n  x = w", "Retype 6:3"),
+    (" b = b and b\n b = 1", "Retype 5:2"),
     (" w[0] = 1", "Type 4:7"),
     (" w[:] = v", "Type 4:7"),
     (" w[:] = i", "Type 4:7"),
@@ -875,126 +557,39 @@ static REFUSED: [(&str, &str); 70] = [
     (" v[0, 0] = 1", "Type 4:3"),
     (" v[b] = 1", "Type 4:3"),
     (" v[w] = 1", "Type 4:3"),
-    (
-        " i[0] = b + b",
-        "Type 4:11",
-    ),
+    (" i[0] = b + b", "Type 4:11"),
     (" w[b] = 1", "Type 4:3"),
-    (
-        " v[b] += b + b",
-        "Type 4:3",
-    ),
-    (
-        " w[b + b] = 1",
-        "Type 4:6",
-    ),
-    (
-        " v[0] += b + b",
-        "Type 4:12",
-    ),
+    (" v[b] += b + b", "Type 4:3"),
+    (" w[b + b] = 1", "Type 4:6"),
+    (" v[0] += b + b", "Type 4:12"),
     (" v += b + b", "Type 4:9"),
     (" w[0] -= -b", "Type 4:10"),
     (" v[0][0] = 1", "Type 4:6"),
-    (
-        " if i:\n  pass",
-        "Type 4:2",
-    ),
-    (
-        " if b:\n  pass\n elif v:\n  pass",
-        "Type 6:2",
-    ),
-    (
-        " if w:\n  x = b + b",
-        "Type 4:2",
-    ),
-    (
-        " if b + b:\n  pass",
-        "Type 4:7",
-    ),
-    (
-        " if b:\n  x = -b\n else:\n  x = +b",
-        "Type 5:7",
-    ),
-    (
-        " if b:\n  pass\n elif b + b:\n  pass",
-        "Type 6:9",
-    ),
-    (
-        " for k in range(b):\n  pass",
-        "Type 4:11",
-    ),
-    (
-        " for k in range(v):\n  pass",
-        "Type 4:11",
-    ),
-    (
-        " for k in range(1, b):\n  pass",
-        "Type 4:11",
-    ),
-    (
-        " for k in range(1, 2, b):\n  pass",
-        "Type 4:11",
-    ),
-    (
-        " for k in range(w, 1):\n  pass",
-        "Type 4:11",
-    ),
-    (
-        " for k in range(b + b):\n  pass",
-        "Type 4:19",
-    ),
-    (
-        " for b in range(3):\n  x = b + b",
-        "Retype 4:6",
-    ),
-    (
-        " for v in range(b):\n  pass",
-        "Type 4:11",
-    ),
-    (
-        " k = True\n for k in range(2):\n  pass",
-        "Retype 5:6",
-    ),
-    (
-        " for k in range(2):\n  k = b",
-        "Retype 5:3",
-    ),
-    (
-        " for k in range(2):\n  x = -b",
-        "Type 5:7",
-    ),
-    (
-        " if b:\n  return i\n else:\n  return v",
-        "Type 7:3",
-    ),
-    (
-        " if b:\n  return i\n else:\n  return",
-        "Type 7:3",
-    ),
-    (
-        " if b:\n  return\n else:\n  return i",
-        "Type 7:3",
-    ),
-    (
-        " if b:\n  return i, i\n else:\n  return i",
-        "Type 7:3",
-    ),
-    (
-        " if b:\n  return i\n else:\n  return b + b",
-        "Type 7:12",
-    ),
-    (
-        " if b:\n  return i",
-        "Type 3:5",
-    ),
-    (
-        " if b:\n  return v\n else:\n  x = 1",
-        "Type 3:5",
-    ),
-    (
-        " if b:\n  return i\n else:\n  x = -b",
-        "Type 7:7",
-    ),
+    (" if i:\n  pass", "Type 4:2"),
+    (" if b:\n  pass\n elif v:\n  pass", "Type 6:2"),
+    (" if w:\n  x = b + b", "Type 4:2"),
+    (" if b + b:\n  pass", "Type 4:7"),
+    (" if b:\n  x = -b\n else:\n  x = +b", "Type 5:7"),
+    (" if b:\n  pass\n elif b + b:\n  pass", "Type 6:9"),
+    (" for k in range(b):\n  pass", "Type 4:11"),
+    (" for k in range(v):\n  pass", "Type 4:11"),
+    (" for k in range(1, b):\n  pass", "Type 4:11"),
+    (" for k in range(1, 2, b):\n  pass", "Type 4:11"),
+    (" for k in range(w, 1):\n  pass", "Type 4:11"),
+    (" for k in range(b + b):\n  pass", "Type 4:19"),
+    (" for b in range(3):\n  x = b + b", "Retype 4:6"),
+    (" for v in range(b):\n  pass", "Type 4:11"),
+    (" k = True\n for k in range(2):\n  pass", "Retype 5:6"),
+    (" for k in range(2):\n  k = b", "Retype 5:3"),
+    (" for k in range(2):\n  x = -b", "Type 5:7"),
+    (" if b:\n  return i\n else:\n  return v", "Type 7:3"),
+    (" if b:\n  return i\n else:\n  return", "Type 7:3"),
+    (" if b:\n  return\n else:\n  return i", "Type 7:3"),
+    (" if b:\n  return i, i\n else:\n  return i", "Type 7:3"),
+    (" if b:\n  return i\n else:\n  return b + b", "Type 7:12"),
+    (" if b:\n  return i", "Type 3:5"),
+    (" if b:\n  return v\n else:\n  x = 1", "Type 3:5"),
+    (" if b:\n  return i\n else:\n  x = -b", "Type 7:7"),
     (
         " s = True\n #omp parallel for reduction(+:s)\n for k in range(3):\n  pass",
         "Type 6:11",
@@ -1023,22 +618,13 @@ static REFUSED: [(&str, &str); 70] = [
         " #omp parallel for reduction(+:s)\n for k in range(3):\n  pass\n s = 1",
         "Type 5:11",
     ),
-    (
-        " x = -b\n y = 1\n y = b",
-        "Type 4:6",
-    ),
-    (
-        " y = 1\n y = b\n x = -b",
-        "Retype 5:2",
-    ),
+    (" x = -b\n y = 1\n y = b", "Type 4:6"),
+    (" y = 1\n y = b\n x = -b", "Retype 5:2"),
 ];
 
 // Modules with calls, and their programs or where they are refused.
 static MODULES: [(&str, &str); 27] = [
-    (
-        "",
-        "Program instances: [], kernels: []",
-    ),
+    ("", "Program instances: [], kernels: []"),
     (
         "def f(a):\n return -a + b\n",
         "Program instances: [], kernels: []",
@@ -1266,7 +852,8 @@ fn program_text(alloc: Global, source: &[u8]) -> Result<String, Stop> {
     }
 }
 
-static HEAD: &str = "import numpy as np\n#pythran export f(int, bool, int[::], bool[::], int[::,::], bool[::,::], \
+static HEAD: &str =
+    "import numpy as np\n#pythran export f(int, bool, int[::], bool[::], int[::,::], bool[::,::], \
     int[:,:,:,:])\ndef f(i, b, v, w, m, p, q):\n";
 
 fn source_of(alloc: Global, start: &str, body: &str) -> Result<String, AllocError> {
@@ -1329,5 +916,91 @@ fn calls_have_instances(rt: HostRuntime) -> Result<(), Fail> {
         let text = program_text(alloc, row.0.as_bytes())?;
         assert_eq!(rt; text.as_str(), row.1, "{}", row.0);
     }
+    Ok(())
+}
+
+
+// A module with a kernel `f` of this body, behind these functions.
+fn with_kernel(alloc: Global, functions: &str, body: &str) -> Result<String, AllocError> {
+    let mut source = String::new(alloc);
+    source.push_str("#pythran export f(int)\n")?;
+    source.push_str(functions)?;
+    source.push_str("def f(a):\n")?;
+    source.push_str(body)?;
+    Ok(source)
+}
+
+#[test]
+fn many_names_are_numbered(rt: HostRuntime) -> Result<(), Fail> {
+    let alloc = rt.alloc();
+    let mut body = String::new(alloc);
+    for n in 0..20000u32 {
+        write!(&mut body, " x{n} = a\n")?;
+    }
+    for n in 0..20000u32 {
+        write!(&mut body, " x{n} = a\n")?;
+    }
+    let source = with_kernel(alloc, "", body.as_str())?;
+    let program = program_of(alloc, source.as_bytes())?;
+    let f = program.instances.as_slice().first().ok_or("no instance")?;
+    assert_eq!(rt; f.names.len(), 20001);
+    assert_eq!(rt; f.body.len(), 40000);
+    Ok(())
+}
+
+#[test]
+fn many_functions_are_walked(rt: HostRuntime) -> Result<(), Fail> {
+    let alloc = rt.alloc();
+    let mut functions = String::new(alloc);
+    let mut body = String::new(alloc);
+    for n in 0..5000u32 {
+        write!(&mut functions, "def g{n}(a):\n return a\n")?;
+        write!(&mut body, " g{n}(a)\n")?;
+    }
+    let source = with_kernel(alloc, functions.as_str(), body.as_str())?;
+    let program = program_of(alloc, source.as_bytes())?;
+    assert_eq!(rt; program.instances.len(), 5001);
+    Ok(())
+}
+
+static TYPES: [&str; 8] = ["int", "bool", "int[]", "bool[]", "int[::]", "bool[::]", "int[][]", "bool[][]"];
+
+#[test]
+fn each_signature_has_a_kernel(rt: HostRuntime) -> Result<(), Fail> {
+    let alloc = rt.alloc();
+    let mut source = String::new(alloc);
+    for a in &TYPES {
+        for b in &TYPES {
+            write!(&mut source, "#pythran export f({a}, {b})\n")?;
+        }
+    }
+    source.push_str("def f(a, b):\n return g(a), g(b)\ndef g(x):\n return x\n")?;
+    let program = program_of(alloc, source.as_bytes())?;
+    assert_eq!(rt; program.kernels.len(), 64);
+    // `int[]` and `int[::]` are one argument type
+    assert_eq!(rt; program.instances.len(), 70);
+    Ok(())
+}
+
+// Functions of which each calls the next one, behind a kernel that calls the first: `calls` calls in all.
+fn chain(alloc: Global, calls: u32) -> Result<String, AllocError> {
+    let mut source = String::new(alloc);
+    source.push_str("#pythran export h0(int)\n")?;
+    for n in 0..calls {
+        write!(&mut source, "def h{n}(a):\n return h{}(a)\n", n.wrapping_add(1))?;
+    }
+    write!(&mut source, "def h{calls}(a):\n return a\n")?;
+    Ok(source)
+}
+
+#[test]
+fn chains_of_calls_are_walked(rt: HostRuntime) -> Result<(), Fail> {
+    let alloc = rt.alloc();
+    let source = chain(alloc, 32)?;
+    let program = program_of(alloc, source.as_bytes())?;
+    assert_eq!(rt; program.instances.len(), 33);
+    let text = "#pythran export f(int)\ndef f(a):\n return g(a)\ndef g(a):\n return f(a)\n";
+    let text = program_text(alloc, text.as_bytes())?;
+    assert_eq!(rt; text.as_str(), "Recursion 3:9");
     Ok(())
 }
