@@ -1,7 +1,7 @@
 -- What a program's test says of it.
 use Rattle.std.proofs.Common.{arith, ◌≡◌, ◌<◌, ◌+◌, ◌++◌, ◌&&◌, ℕ, zero, suc, Bool, true, false, nat_lt, List, [], ◌∷◌}
-use Rattle.std.proofs.Common.{length, map, take, slice_get, Option, Some, None, append_assoc, append-nil, ap, ap₂, ◌∙◌}
-use Rattle.std.proofs.Common.{sym, refl, subst}
+use Rattle.std.proofs.Common.{length, map, take, slice_get, Option, Some, None, Result, Ok, Err, IfOk, append_assoc, append-nil, ap, ap₂, ◌∙◌}
+use Rattle.std.proofs.Common.{sym, refl, subst, drop, drop-cons, get_or, add-one}
 use Rattle.std.proofs.lemmas.Bool.Decides.{Decides-ltb}
 use Rattle.std.proofs.lemmas.List.Elements.{All-from_recursion}
 use Rattle.std.proofs.lemmas.Option.{slice_get-map}
@@ -106,6 +106,14 @@ both_lists test (x ∷ xs) ys h k =
 below : (m n : ℕ) → nat_lt m n ≡ true → m < n
 below m n h = (Decides-ltb m n).0 h
 
+-- a list from one of its items on
+pub all_from : {A : Type 0} (test : A → Bool) (xs : List A) (i : ℕ) (x : A) → i < length xs → x ≡ get_or xs i x →
+    list_all test (drop i xs) ≡ (test x && list_all test (drop (i + 1) xs))
+all_from test xs i x lt is =
+    let here : drop i xs ≡ x ∷ drop (i + 1) xs =
+    rw add-one (drop-cons xs i x lt ∙ ap (λ y. y ∷ drop (suc i) xs) (sym is)) in
+    ap (list_all test) here
+
 well_typed : (heads : List Head) (f : Instance) → is_well_typed heads f ≡ true → IsWellTyped heads f
 well_typed heads f h =
     let body : Bool = all_fit heads f.rets f.names f.body in
@@ -170,3 +178,9 @@ checked_is_typed heights program h =
           (λ kernel. below kernel (length program.instances)) program.kernels (right typed there first);
       no_cycle = no_cycle heights program.instances (right (typed && there) low h);
     }
+
+-- the answer of the test
+pub passed : {E : Type 0} (r : Result Bool E) (heights : List ℕ) (program : Program) →
+    IfOk r (λ b. b ≡ is_checked heights program) → IfOk r (λ b. b ≡ true → IsTyped program)
+passed (Ok b) heights program same = λ yes. checked_is_typed heights program (sym same ∙ yes)
+passed (Err e) heights program same = tt

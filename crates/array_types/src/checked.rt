@@ -1,5 +1,5 @@
 // A test of a finished program: that it is well typed, and that no instance leads back to itself by its calls.
-ghost use Rattle.std.specs.Prelude.{◌≡◌, ◌++◌, [], map, take, length, nat_lt, IfOk, OnOk, true};
+ghost use Rattle.std.specs.Prelude.{◌≡◌, ◌++◌, ◌&&◌, [], map, take, length, nat_lt, IfOk, OnOk, true};
 ghost use Rattle.std.specs.List.{list_all};
 ghost use Rattle.array_types.specs.Checked as spec;
 ghost use Rattle.eager_rules.specs.Sound as sound;
@@ -37,16 +37,23 @@ fn first_names(names: &[Ty], count: usize) -> &[Ty]
     &names[..count.min(names.len())]
 }
 
+/// All five tests of an instance.
+fn all_hold(body: bool, params: bool, names: bool, rets: bool, returns: bool) -> bool
+    ensures { result ≡ ((body && params) && ((names && rets) && returns)) }
+{
+    (body && params) && ((names && rets) && returns)
+}
+
 fn is_well_typed(f: &Instance, instances: &[Instance], alloc: Global) -> Result<bool, NoMemory>
     ensures { IfOk result (λ b. b ≡ spec.is_well_typed (map sound.head_of instances.now) f.now) }
 {
     let rets = f.rets.as_slice();
     let names = f.names.as_slice();
     let body = all_fit(f.body.as_slice(), instances, rets, names, alloc)?;
-    let params = params_of(alloc, f.params.as_slice())?;
-    let firsts = same_types(first_names(names, f.params.len()), params.as_slice());
-    let small = all_small(names) && all_small(rets);
-    Ok((body && firsts) && (small && ends_well(rets, f.body.as_slice())))
+    let types = params_of(alloc, f.params.as_slice())?;
+    let params = same_types(first_names(names, f.params.len()), types.as_slice());
+    let returns = ends_well(rets, f.body.as_slice());
+    Ok(all_hold(body, params, all_small(names), all_small(rets), returns))
 }
 
 fn are_well_typed(
@@ -189,14 +196,22 @@ fn are_there(kernels: &[u32], instances: usize) -> bool
     true
 }
 
-/// Whether a program is well typed: its statements are, and no chain of calls leads from an instance back to it. One
-/// pass over the program, and one over its calls for each level of calls.
-pub fn is_checked(alloc: Global, program: &Program) -> Result<bool, NoMemory>
-    ensures { IfOk result (λ b. b ≡ true → IsTyped program.now) }
+/// Whether a program is well typed, and its calls descend by these heights.
+fn passes(heights: &[u32], program: &Program, alloc: Global) -> Result<bool, NoMemory>
+    ensures { IfOk result (λ b. b ≡ spec.is_checked heights.now program.now) }
 {
     let instances = program.instances.as_slice();
     let typed = are_well_typed(instances, instances, alloc)?;
-    let heights = heights_of(alloc, instances)?;
-    let low = descend(alloc, heights.as_slice(), instances)?;
+    let low = descend(alloc, heights, instances)?;
     Ok((typed && are_there(program.kernels.as_slice(), instances.len())) && low)
+}
+
+/// Whether a program is well typed: its statements are, and no chain of calls leads from an instance back to it. One
+/// pass over the program, and one over its calls for each level of calls.
+#[tactic(auto, using(crate::proofs::Checks::passed))]
+pub fn is_checked(alloc: Global, program: &Program) -> Result<bool, NoMemory>
+    ensures { IfOk result (λ b. b ≡ true → IsTyped program.now) }
+{
+    let heights = heights_of(alloc, program.instances.as_slice())?;
+    passes(heights.as_slice(), program, alloc)
 }
