@@ -15,7 +15,8 @@ abbrev or_later : Option ℕ → Option ℕ → Option ℕ
 or_later (Some x) later = Some x
 or_later None later = later
 
-later_given : (b : Bool) (x : ℕ) (o later : Option ℕ) → given_by b x (or_later o later) ≡ or_later (given_by b x o) later
+later_given : (b : Bool) (x : ℕ) (o later : Option ℕ) → given_by b x (or_later o later) ≡
+    or_later (given_by b x o) later
 later_given true x o later = refl
 later_given false x o later = refl
 

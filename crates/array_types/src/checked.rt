@@ -164,8 +164,8 @@ fn above(heights: &[u32], calls: &[u32]) -> u32 {
     height
 }
 
-/// Heights for the instances, by which calls descend where no chain of calls leads back. Each round of at most `LONGEST`
-/// goes once through the calls.
+/// Heights for the instances, by which calls descend where no chain of calls leads back. Each round, of `LONGEST` at
+/// most, goes once through the calls.
 fn heights_of(alloc: Global, instances: &[Instance]) -> Result<Seq<u32>, NoMemory> {
     let mut heights = Seq::new(alloc);
     for _round in 0..LONGEST {

@@ -122,8 +122,8 @@ fn complete(alloc: Global, instances: Seq<Option<Instance>>) -> Result<Seq<Insta
 ///
 /// Cost: an instance takes one walk through its function's body, which is linear in the body's terms, and its core is
 /// linear in them too. Names and functions are found by an index. A call compares its types with those of the
-/// instances met so far, and a new name its text with the reductions that still wait for a type. The finished program is
-/// tested once, and its calls once for each level of calls.
+/// instances met so far, and a new name its text with the reductions that still wait for a type. The finished program
+/// is tested once, and its calls once for each level of calls.
 pub fn typed_terms(
     alloc: Global,
     routines: &[Routine],

@@ -919,7 +919,6 @@ fn calls_have_instances(rt: HostRuntime) -> Result<(), Fail> {
     Ok(())
 }
 
-
 // A module with a kernel `f` of this body, behind these functions.
 fn with_kernel(alloc: Global, functions: &str, body: &str) -> Result<String, AllocError> {
     let mut source = String::new(alloc);
@@ -963,7 +962,9 @@ fn many_functions_are_walked(rt: HostRuntime) -> Result<(), Fail> {
     Ok(())
 }
 
-static TYPES: [&str; 8] = ["int", "bool", "int[]", "bool[]", "int[::]", "bool[::]", "int[][]", "bool[][]"];
+static TYPES: [&str; 8] = [
+    "int", "bool", "int[]", "bool[]", "int[::]", "bool[::]", "int[][]", "bool[][]",
+];
 
 #[test]
 fn each_signature_has_a_kernel(rt: HostRuntime) -> Result<(), Fail> {
@@ -987,7 +988,11 @@ fn chain(alloc: Global, calls: u32) -> Result<String, AllocError> {
     let mut source = String::new(alloc);
     source.push_str("#pythran export h0(int)\n")?;
     for n in 0..calls {
-        write!(&mut source, "def h{n}(a):\n return h{}(a)\n", n.wrapping_add(1))?;
+        write!(
+            &mut source,
+            "def h{n}(a):\n return h{}(a)\n",
+            n.wrapping_add(1)
+        )?;
     }
     write!(&mut source, "def h{calls}(a):\n return a\n")?;
     Ok(source)
