@@ -1,3 +1,5 @@
 pub mod Lists
 pub mod Equations
 pub mod Weights
+pub mod Checks
+pub mod Indexing

@@ -1,7 +1,6 @@
 -- A walk goes on with what has been made so far, or refuses the module.
 use Rattle.std.specs.Prelude.{◌≡◌, ℕ, ◌+◌, Bool, true, false, List, [], ◌∷◌, ◌++◌, length, slice_get, Option, Some}
 use Rattle.std.specs.Prelude.{None, Result, Ok, Err}
-use Rattle.std.specs.Str.{bytes_eq}
 use Rattle.krn_base.specs.declared.kind.Kind.TheVariants.{Int64}
 use Rattle.krn_base.specs.declared.place.Loc.{Loc}
 use Rattle.krn_base.specs.declared.refusal.Refusal.{Refusal}
@@ -14,6 +13,7 @@ use Rattle.eager_rules.specs.declared.program.Core.{Core}
 use Rattle.eager_rules.specs.declared.program.Oper.{Oper}
 use Rattle.eager_rules.specs.declared.program.Oper.TheVariants as oper
 use Rattle.py_parse.specs.declared.tree.Name.{Name as Named}
+pub use Rattle.array_types.specs.Find.{find}
 use Rattle.array_types.specs.declared.state.State.{State}
 use Rattle.array_types.specs.declared.state.Target.{Target}
 use Rattle.array_types.specs.declared.state.Target.TheVariants.{Own, Into}
@@ -63,15 +63,6 @@ test true at = pure tt
 test false at = refuse Types at
 
 -- ---- names
-
--- what stands for a text in a list: the first one counts
-abbrev pub given_by : {A : Type 0} → Bool → A → Option A → Option A
-given_by true x later = Some x
-given_by false x later = later
-
-abbrev pub find : {A : Type 0} → List ℕ → List (List ℕ × A) → Option A
-find text [] = None
-find text (entry ∷ rest) = given_by (bytes_eq entry.0 text) entry.1 (find text rest)
 
 abbrev pub emit : Core → Walk Nothing
 emit core = λ s. Ok (tt, record s { out = s.out ++ core ∷ [] })

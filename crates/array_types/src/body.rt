@@ -5,11 +5,12 @@ ghost use Rattle.array_types.specs.Modules as module_spec;
 ghost use Rattle.array_types.specs.Modules.{calls_at};
 ghost use Rattle.array_types.specs.Walk.{Walks};
 
+use crate::known::Known;
 use crate::state::{Key, State, Target, Ty, Value};
 use crate::walk::{bind, emit, need, number_for, read, test};
 use crate::{cores, instances, rows, steps};
 use eager_rules::{Core, CoreSub, Oper};
-use krn_base::{Kind, Loc, ParamType, Refusal, Rule, Seq, Stop, Text};
+use krn_base::{Kind, Loc, ParamType, Refusal, Rule, Seq, Stop};
 use module_terms::{Line, Loop, Part, Routine, Term};
 use py_parse::Name;
 use std::alloc::Global;
@@ -21,7 +22,7 @@ fn term(
     target: Target,
     depth: u32,
     routines: &[Routine],
-    names: &[(Text, u32)],
+    names: &Known,
     alloc: Global,
     state: &mut State,
 ) -> Result<Value, Stop>
@@ -104,7 +105,7 @@ fn terms(
     args: &[Term],
     depth: u32,
     routines: &[Routine],
-    names: &[(Text, u32)],
+    names: &Known,
     alloc: Global,
     state: &mut State,
 ) -> Result<Seq<Value>, Stop>
@@ -126,7 +127,7 @@ fn links(
     first: Value,
     depth: u32,
     routines: &[Routine],
-    names: &[(Text, u32)],
+    names: &Known,
     alloc: Global,
     state: &mut State,
 ) -> Result<Value, Stop>
@@ -151,7 +152,7 @@ fn joined(
     a: Value,
     depth: u32,
     routines: &[Routine],
-    names: &[(Text, u32)],
+    names: &Known,
     alloc: Global,
     state: &mut State,
 ) -> Result<Value, Stop>
@@ -176,7 +177,7 @@ fn subscripts(
     parts: &[Part],
     depth: u32,
     routines: &[Routine],
-    names: &[(Text, u32)],
+    names: &Known,
     alloc: Global,
     state: &mut State,
 ) -> Result<Seq<CoreSub>, Stop>
@@ -195,7 +196,7 @@ fn subscript(
     x: &Part,
     depth: u32,
     routines: &[Routine],
-    names: &[(Text, u32)],
+    names: &Known,
     alloc: Global,
     state: &mut State,
 ) -> Result<CoreSub, Stop>
@@ -221,7 +222,7 @@ fn bound(
     x: &Option<Term>,
     depth: u32,
     routines: &[Routine],
-    names: &[(Text, u32)],
+    names: &Known,
     alloc: Global,
     state: &mut State,
 ) -> Result<Option<Oper>, Stop>
@@ -243,7 +244,7 @@ fn line(
     x: &Line,
     depth: u32,
     routines: &[Routine],
-    names: &[(Text, u32)],
+    names: &Known,
     alloc: Global,
     state: &mut State,
 ) -> Result<(), Stop>
@@ -325,7 +326,7 @@ fn over_range(
     head: &Loop,
     depth: u32,
     routines: &[Routine],
-    names: &[(Text, u32)],
+    names: &Known,
     alloc: Global,
     state: &mut State,
 ) -> Result<(), Stop>
@@ -359,7 +360,7 @@ fn inner(
     body: &[Line],
     depth: u32,
     routines: &[Routine],
-    names: &[(Text, u32)],
+    names: &Known,
     alloc: Global,
     state: &mut State,
 ) -> Result<Seq<Core>, Stop>
@@ -377,7 +378,7 @@ fn block(
     body: &[Line],
     depth: u32,
     routines: &[Routine],
-    names: &[(Text, u32)],
+    names: &Known,
     alloc: Global,
     state: &mut State,
 ) -> Result<(), Stop>
@@ -397,7 +398,7 @@ fn call(
     name: &Name,
     types: Seq<Ty>,
     routines: &[Routine],
-    names: &[(Text, u32)],
+    names: &Known,
     alloc: Global,
     state: &mut State,
 ) -> Result<(u32, Seq<Ty>), Stop>
@@ -452,7 +453,7 @@ fn new(
     types: Seq<Ty>,
     at: Loc,
     routines: &[Routine],
-    names: &[(Text, u32)],
+    names: &Known,
     alloc: Global,
     state: &mut State,
 ) -> Result<(u32, Seq<Ty>), Stop>
@@ -480,7 +481,7 @@ pub fn enter(
     params: Seq<ParamType>,
     depth: u32,
     routines: &[Routine],
-    names: &[(Text, u32)],
+    names: &Known,
     alloc: Global,
     state: &mut State,
 ) -> Result<(u32, Seq<Ty>), Stop>

@@ -6,6 +6,7 @@ ghost use Rattle.std.specs.List.{zip};
 ghost use Rattle.array_types.specs.Modules as spec;
 ghost use Rattle.array_types.specs.Walk.{Walks};
 
+use crate::known::Known;
 use crate::rows::same_types;
 use crate::shape::ends_well;
 use crate::state::{Key, State, Ty};
@@ -96,30 +97,30 @@ fn types_of_params(alloc: Global, params: &[ParamType]) -> Result<Seq<Ty>, NoMem
 
 /// Names with their numbers.
 #[tactic(auto, using(crate::proofs::Lists::numbered_here, std::proofs::lemmas::Grind::common_steps))]
-fn numbered(alloc: Global, names: &[Name]) -> Result<Seq<(Text, u32)>, NoMemory>
+fn numbered(alloc: Global, names: &[Name]) -> Result<Known, NoMemory>
     ensures { IfOk result (λ known. known ≡ spec.numbered names.now) }
 {
     if names.len() > u32::MAX as usize {
         return Err(NoMemory);
     }
-    let mut known = Seq::new(alloc);
+    let mut known = Known::new(alloc);
     for k in 0..names.len() {
-        known.push((names[k].text.try_copy()?, k as u32))?;
+        known.add(names[k].text.try_copy()?, k as u32)?;
     }
     Ok(known)
 }
 
 /// The numbers of the functions by their names.
 #[tactic(auto, using(crate::proofs::Lists::numbered_here, std::proofs::lemmas::Grind::common_steps))]
-pub fn functions(alloc: Global, routines: &[Routine]) -> Result<Seq<(Text, u32)>, NoMemory>
+pub fn functions(alloc: Global, routines: &[Routine]) -> Result<Known, NoMemory>
     ensures { IfOk result (λ known. known ≡ spec.functions routines.now) }
 {
     if routines.len() > u32::MAX as usize {
         return Err(NoMemory);
     }
-    let mut known = Seq::new(alloc);
+    let mut known = Known::new(alloc);
     for k in 0..routines.len() {
-        known.push((routines[k].name.text.try_copy()?, k as u32))?;
+        known.add(routines[k].name.text.try_copy()?, k as u32)?;
     }
     Ok(known)
 }

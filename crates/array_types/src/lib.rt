@@ -3,14 +3,20 @@
 #![tactic(auto)]
 
 mod body;
+mod checked;
 mod cores;
+mod fitting;
 mod instances;
+mod known;
 mod modules;
 mod rows;
 mod shape;
 mod state;
 mod steps;
+#[cfg(test)]
+mod tests;
 mod walk;
 
+pub use known::Known;
 pub use modules::typed_terms;
 pub use state::{Key, Range, Signature, State, Target, Ty, Value};

@@ -2,13 +2,16 @@
 ghost use Rattle.std.specs.Prelude.{◌≡◌, ◌++◌, [], IfOk, OnOk, option_to_list};
 ghost use Rattle.std.specs.List.{list_all};
 ghost use Rattle.array_types.specs.Modules as spec;
+ghost use Rattle.eager_rules.specs.Sound.{IsTyped};
 ghost use Rattle.array_types.specs.Walk.{Walks};
 
 use crate::body::enter;
+use crate::checked::is_checked;
 use crate::instances::{functions, type_of_param};
+use crate::known::Known;
 use crate::state::{Key, Signature, State};
 use eager_rules::{Instance, Program};
-use krn_base::{NoMemory, ParamType, Refusal, Rule, Seq, Stop, Text};
+use krn_base::{NoMemory, ParamType, Refusal, Rule, Seq, Stop};
 use module_terms::Routine;
 use std::alloc::Global;
 
@@ -30,7 +33,7 @@ fn ranks_fit(params: &[ParamType]) -> bool
 fn kernel(
     signature: &Signature,
     routines: &[Routine],
-    names: &[(Text, u32)],
+    names: &Known,
     alloc: Global,
     state: &mut State,
 ) -> Result<u32, Stop>
@@ -70,7 +73,7 @@ fn kernel(
 fn kernels(
     signatures: &[Signature],
     routines: &[Routine],
-    names: &[(Text, u32)],
+    names: &Known,
     alloc: Global,
     state: &mut State,
 ) -> Result<Seq<u32>, Stop>
@@ -114,24 +117,32 @@ fn complete(alloc: Global, instances: Seq<Option<Instance>>) -> Result<Seq<Insta
 /// at its place. A signature whose function or number of parameters isn't there is refused as `Export` at its note; a
 /// call deeper than 33, or of a function that is still being walked, as `Recursion`; a name without a type as `Name`,
 /// each at the name.
+///
+/// The program is well typed, and no chain of its calls leads from an instance back to it.
+///
+/// Cost: an instance takes one walk through its function's body, which is linear in the body's terms, and its core is
+/// linear in them too. Names and functions are found by an index. A call compares its types with those of the
+/// instances met so far, and a new name its text with the reductions that still wait for a type. The finished program
+/// is tested once, and its calls once for each level of calls.
 pub fn typed_terms(
     alloc: Global,
     routines: &[Routine],
     signatures: &[Signature],
 ) -> Result<Program, Stop>
-    ensures { spec.IsProgramOf routines.now signatures.now result }
+    ensures program { spec.IsProgramOf routines.now signatures.now result }
+    ensures typed { IfOk result IsTyped }
 {
     let names = functions(alloc, routines)?;
     let mut state = State {
         keys: Seq::new(alloc),
         instances: Seq::new(alloc),
         types: Seq::new(alloc),
-        known: Seq::new(alloc),
+        known: Known::new(alloc),
         awaited: Seq::new(alloc),
         out: Seq::new(alloc),
         rets: None,
     };
-    let kernels = kernels(signatures, routines, names.as_slice(), alloc, &mut state)?;
+    let kernels = kernels(signatures, routines, &names, alloc, &mut state)?;
     let State {
         keys: _,
         instances,
@@ -142,5 +153,10 @@ pub fn typed_terms(
         rets: _,
     } = state;
     let instances = complete(alloc, instances)?;
-    Ok(Program { instances, kernels })
+    let program = Program { instances, kernels };
+    if is_checked(alloc, &program)? {
+        Ok(program)
+    } else {
+        Err(Stop::Memory)
+    }
 }

@@ -1,4 +1,5 @@
 // What a walk through a module has made so far.
+use crate::known::Known;
 use eager_rules::{Core, Instance, Oper};
 use krn_base::{Kind, Loc, ParamType, Seq, Text};
 
@@ -31,7 +32,7 @@ pub enum Key {
 }
 
 /// Instances in the order in which they are met, and the body that is being walked.
-#[derive(Debug, PartialEq, Eq, Drop)]
+#[derive(Drop)]
 pub struct State {
     pub keys: Seq<Key>,
     /// One for each key, once its body has been walked.
@@ -39,7 +40,7 @@ pub struct State {
     /// The types of the body's names, by their numbers.
     pub types: Seq<Ty>,
     /// The numbers of the names that have a text.
-    pub known: Seq<(Text, u32)>,
+    pub known: Known,
     /// Names of reductions that have no type yet, with the place of their loop's `range`.
     pub awaited: Seq<(Text, Loc)>,
     /// The statements of the block so far.

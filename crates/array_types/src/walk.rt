@@ -4,6 +4,7 @@ ghost use Rattle.array_types.specs.Walk as spec;
 ghost use Rattle.array_types.specs.Walk.{Walks};
 ghost use Rattle.array_types.specs.Forms as forms;
 
+use crate::known::Known;
 use crate::rows::same_type;
 use crate::state::{State, Target, Ty, Value};
 use eager_rules::{Core, Oper};
@@ -38,16 +39,11 @@ pub fn test(holds: bool, at: Loc, state: &State) -> Result<(), Stop>
     }
 }
 
-/// The number that a list has for a text.
-pub fn number_for(text: &[u8], names: &[(Text, u32)]) -> Option<u32>
+/// The number of a text.
+pub fn number_for(text: &[u8], names: &Known) -> Option<u32>
     ensures { result ≡ spec.find text.now names.now }
 {
-    for entry in names {
-        if entry.0.as_slice() == text {
-            return Some(entry.1);
-        }
-    }
-    None
+    names.get(text)
 }
 
 /// The place that a list has for a text.
@@ -101,7 +97,7 @@ fn add_text(text: Text, ty: Ty, state: &mut State) -> Result<u32, Stop>
         state,
     )?;
     let n = add(ty, state)?;
-    state.known.push((text, n))?;
+    state.known.add(text, n)?;
     Ok(n)
 }
 
@@ -134,16 +130,32 @@ fn rebind(n: u32, ty: Ty, first: Loc, state: &State) -> Result<u32, Stop>
     }
 }
 
+/// A binding of a text's name, by its number if it has one.
+fn bind_text(
+    found: Option<u32>,
+    text: Text,
+    ty: Ty,
+    first: Loc,
+    state: &mut State,
+) -> Result<u32, Stop>
+    ensures { Walks (spec.bind_text text first ty found state.old) result state.new }
+{
+    match found {
+        None => add_text(text, ty, state),
+        Some(n) => rebind(n, ty, first, state),
+    }
+}
+
 /// The number of the target: a name of its own, or the text's name, which must have this type if it has one.
 pub fn bind(target: Target, ty: Ty, state: &mut State) -> Result<u32, Stop>
     ensures { Walks (spec.bind target ty state.old) result state.new }
 {
     match target {
         Target::Own => add(ty, state),
-        Target::Into(text, first, _) => match number_for(text.as_slice(), state.known.as_slice()) {
-            None => add_text(text, ty, state),
-            Some(n) => rebind(n, ty, first, state),
-        },
+        Target::Into(text, first, _) => {
+            let found = number_for(text.as_slice(), &state.known);
+            bind_text(found, text, ty, first, state)
+        }
     }
 }
 
@@ -151,7 +163,7 @@ pub fn bind(target: Target, ty: Ty, state: &mut State) -> Result<u32, Stop>
 pub fn read(name: &Name, state: &State) -> Result<Value, Stop>
     ensures { Walks (spec.read name.now state.now) result state.now }
 {
-    match number_for(name.text.as_slice(), state.known.as_slice()) {
+    match number_for(name.text.as_slice(), &state.known) {
         None => Err(Stop::Refused(Refusal {
             rule: Rule::Name,
             loc: name.loc,
@@ -173,7 +185,7 @@ pub fn read(name: &Name, state: &State) -> Result<Value, Stop>
 pub fn name_of(name: &Name, state: &State) -> Option<u32>
     ensures { result ≡ spec.find name.now.text state.now.known }
 {
-    number_for(name.text.as_slice(), state.known.as_slice())
+    number_for(name.text.as_slice(), &state.known)
 }
 
 /// Waits for a reduction's name.
