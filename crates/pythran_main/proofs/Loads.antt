@@ -1,6 +1,7 @@
 -- Loads of what is told give the same, and the loads of a request lead to its one answer.
 use Rattle.std.proofs.Common.{◌≡◌, ℕ, ◌+◌, ◌<◌, ◌≤◌, List, [], ◌∷◌, length, take, Result, Ok, Err, refl, sym, ◌∙◌, ap}
 use Rattle.std.proofs.Common.{subst, arith}
+use Rattle.eager_rules.specs.declared.program.Program.{Program}
 use Rattle.host_io.specs.Files.{Held, IsContent, IsCutContent}
 use Rattle.call_items.specs.Binding.{BoundMeaning, bind}
 use Rattle.krn_base.specs.declared.refusal.Refusal.{Refusal}
@@ -13,7 +14,6 @@ use Rattle.pythran_main.specs.Request.{Asked}
 use Rattle.pythran_main.specs.Steps.{Prepared, source_load, IsOneAnswer, IsUnloaded, Prepares}
 use Rattle.pythran_main.specs.World.{Filed}
 use Rattle.pythran_main.specs.declared.answer.Report.{Report}
-use Rattle.pythran_main.specs.declared.kernel.ShortKernel.{ShortKernel}
 use Rattle.pythran_main.specs.declared.trouble.Trouble.{Trouble}
 use Rattle.pythran_main.specs.declared.trouble.Trouble.TheVariants.{NoRequest, Refused, RefusedItem, LoadFailed}
 use Rattle.pythran_main.specs.declared.trouble.Trouble.TheVariants.{WriteFailed, StoreFailed, Memory, TooLong}
@@ -113,27 +113,27 @@ called_same source (Ok m) loads others a b x y = y.1 ∙ sym (x.1)
 
 module _ (asked : Asked) (file : List ℕ) where
   -- another answer follows from the same reading
-  followed : (read : Result ShortKernel Refusal) (rest : List Load) (other : Answer) → IsOneReading file read
+  followed : (read : Result Program Refusal) (rest : List Load) (other : Answer) → IsOneReading file read
       → IsRead asked (Whole file) rest other → IsFollowed asked (source_in read) rest other
   followed read rest other one (found, (as_read, reading, is), follows) =
       let P : Result Source Refusal → Type 0 = λ x. IsFollowed asked x rest other in
-      let Q : Result ShortKernel Refusal → Type 0 = λ x. IsFollowed asked (source_in x) rest other in
+      let Q : Result Program Refusal → Type 0 = λ x. IsFollowed asked (source_in x) rest other in
       subst Q (one.alone as_read reading) (subst P is follows)
 
-  pub called : (k : ShortKernel) (a : Answer) → IsOneReading file (Ok k)
-      → IsCalled (source_of k) (bind (source_of k).heads asked.kernel asked.items) [] a
+  pub called : (program : Program) (a : Answer) → IsOneReading file (Ok program)
+      → IsCalled (source_of program) (bind (source_of program).heads asked.kernel asked.items) [] a
       → IsOneAnswer asked (Whole file) a
-  called k a one c = record {
-    answers = (refl, refl, (Ok (source_of k), (Ok k, one.gives, refl), c));
+  called program a one c = record {
+    answers = (refl, refl, (Ok (source_of program), (Ok program, one.gives, refl), c));
     alone = λ rest other h.
-        called_same (source_of k) (bind (source_of k).heads asked.kernel asked.items) [] rest a other c
-        (followed (Ok k) rest other one (h.2));
+        called_same (source_of program) (bind (source_of program).heads asked.kernel asked.items) [] rest a other c
+        (followed (Ok program) rest other one (h.2));
   }
 
-  pub called_so : (k : ShortKernel) (r : Result Report Trouble) → IsOneReading file (Ok k)
-      → Prepared (IsCalled (source_of k) (bind (source_of k).heads asked.kernel asked.items) []) r
+  pub called_so : (program : Program) (r : Result Report Trouble) → IsOneReading file (Ok program)
+      → Prepared (IsCalled (source_of program) (bind (source_of program).heads asked.kernel asked.items) []) r
       → Prepared (IsOneAnswer asked (Whole file)) r
-  called_so k r one p = prepared_as _ _ r (λ a c. called k a one c) p
+  called_so program r one p = prepared_as _ _ r (λ a c. called program a one c) p
 
   pub refused_alone : (r : Refusal) → IsOneReading file (Err r) → IsOneAnswer asked (Whole file) (answer.Refused r)
   refused_alone r one = record {

@@ -1,20 +1,20 @@
-ghost use Rattle.std.specs.Prelude.{◌≡◌, ◌<◌, ◌≤◌, ◌^◌, [], ◌∷◌, length, IfOk};
+ghost use Rattle.std.specs.Prelude.{◌≡◌, ◌<◌, ◌≤◌, ◌^◌, [], length, true, IfOk};
 ghost use Rattle.call_items.specs.Binding.{bind, meaning as bound_meaning};
 ghost use Rattle.pythran_main.specs.Answer.{IsCalled, product_of, source_of};
 ghost use Rattle.pythran_main.specs.Answer as spec;
+ghost use Rattle.pythran_main.specs.Kernel.{are_served};
 ghost use Rattle.pythran_main.specs.Loads.{Whole};
 ghost use Rattle.pythran_main.specs.Request.{meaning, texts};
 ghost use Rattle.pythran_main.specs.Steps.{product, Prepared, IsOneAnswer};
 
-use crate::kernel::ShortKernel;
-use crate::module_form::read_module;
-use crate::program::{params_of, run};
+use crate::program::{heads_of, run};
+use crate::reading::read_module;
 use crate::request::Request;
 use crate::saved_file::SavedFile;
 use crate::trouble::Trouble;
-use call_items::{BoundCall, KernelHead, bind};
+use call_items::{BoundCall, bind};
 use call_report::{BufferHead, report};
-use eager_rules::{Counts, Outcome};
+use eager_rules::{Counts, Outcome, Program};
 use krn_base::{NoMemory, Seq, Text};
 use std::alloc::{AllocError, Global};
 use view_places::Array;
@@ -27,25 +27,6 @@ pub struct Report {
     pub has_fault: bool,
     /// The files to be stored, in order.
     pub saves: Seq<SavedFile>,
-}
-
-/// The kernel's name and parameters.
-fn head_of(alloc: Global, kernel: &ShortKernel) -> Result<KernelHead, AllocError>
-    ensures { IfOk result (λ head. head ≡ spec.head_of kernel.now) }
-{
-    Ok(KernelHead {
-        name: kernel.name.try_copy()?,
-        params: params_of(alloc, kernel)?,
-    })
-}
-
-/// The heads of the module's kernels, of which there is one.
-fn heads_of(alloc: Global, kernel: &ShortKernel) -> Result<Vec<KernelHead>, AllocError>
-    ensures { IfOk result (λ heads. heads.items ≡ spec.head_of kernel.now ∷ []) }
-{
-    let mut heads = Vec::new(alloc);
-    heads.push(head_of(alloc, kernel)?)?;
-    Ok(heads)
 }
 
 /// The buffers' names, kinds and shapes.
@@ -79,14 +60,19 @@ fn counts_of(outcome: &Outcome) -> Counts
     }
 }
 
-/// The report of the kernel's run on a bound call.
-fn run_bound(alloc: Global, kernel: &ShortKernel, bound: BoundCall) -> Result<Report, NoMemory>
+/// The report of a kernel's run on a bound call.
+fn run_bound(alloc: Global, program: Program, bound: BoundCall) -> Result<Report, NoMemory>
+    requires { are_served program ≡ true }
     ensures { IfOk result (λ made. product made ≡
-        product_of (bound_meaning bound) ((source_of kernel.now).run (bound_meaning bound))) }
+        product_of (bound_meaning bound) ((source_of program).run (bound_meaning bound))) }
 {
-    let BoundCall { names, call, .. } = bound;
+    let BoundCall {
+        kernel,
+        names,
+        call,
+    } = bound;
     let heads = buffer_heads(alloc, names.as_slice(), call.buffers.as_slice())?;
-    let outcome = run(alloc, kernel, &call)?;
+    let outcome = run(alloc, program, kernel, &call)?;
     let text = report(alloc, heads.as_slice(), &outcome, Some(counts_of(&outcome)))?;
     Ok(Report {
         text: Seq::from_vec(text),
@@ -95,19 +81,20 @@ fn run_bound(alloc: Global, kernel: &ShortKernel, bound: BoundCall) -> Result<Re
     })
 }
 
-/// What a request of this kernel comes to.
-fn answer_kernel(
+/// What a request of this program comes to.
+fn answer_program(
     alloc: Global,
-    kernel: &ShortKernel,
+    program: Program,
     request: &Request<'_>,
 ) -> Result<Report, Trouble>
+    requires served { are_served program ≡ true }
     requires items { length request.now.items.now < 2 ^ 31 }
-    ensures { Prepared (IsCalled (source_of kernel.now)
-        (bind (spec.head_of kernel.now ∷ []) request.now.kernel.now (texts request.now.items.now)) []) result }
+    ensures { Prepared (IsCalled (source_of program)
+        (bind (spec.heads_of program) request.now.kernel.now (texts request.now.items.now)) []) result }
 {
-    let heads = heads_of(alloc, kernel)?;
+    let heads = heads_of(alloc, &program)?;
     match bind(alloc, heads.as_slice(), request.kernel, request.items)? {
-        Ok(bound) => Ok(run_bound(alloc, kernel, bound)?),
+        Ok(bound) => Ok(run_bound(alloc, program, bound)?),
         Err(number) => Err(Trouble::RefusedItem(number)),
     }
 }
@@ -121,7 +108,7 @@ pub fn answer_request(alloc: Global, file: &[u8], request: &Request<'_>) -> Resu
         return Err(Trouble::Memory);
     }
     match read_module(alloc, file)? {
-        Ok(kernel) => answer_kernel(alloc, &kernel, request),
+        Ok(program) => answer_program(alloc, program, request),
         Err(refusal) => Err(Trouble::Refused(refusal)),
     }
 }

@@ -10,12 +10,12 @@ ghost use Rattle.std.specs.Vec.Iter.{into_iter_items};
 mod answer;
 mod command;
 mod deliver;
-mod kernel;
 mod load;
-mod module_form;
 mod program;
+mod reading;
 mod request;
 mod saved_file;
+mod served;
 #[cfg(test)]
 mod tests;
 mod trouble;

@@ -4,7 +4,7 @@ use Rattle.pythran_main.specs.Layers.{IsOne}
 use Rattle.pythran_main.specs.Reading.{Parses, IsTreeReading, IsParsedReading}
 use Rattle.pythran_main.proofs.Layers.{then_none, if_one}
 use Rattle.pythran_main.proofs.Modules.{parsed_as, not_parsed_at}
-use Rattle.pythran_main.proofs.module_form.read_tokens.Goals as goal
+use Rattle.pythran_main.proofs.reading.read_tokens.Goals as goal
 
 pub returns-in-Ok : goal.returns-in-Ok
 returns-in-Ok c =

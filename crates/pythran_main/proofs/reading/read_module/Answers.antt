@@ -1,7 +1,7 @@
 use Rattle.pythran_main.specs.Reading.{Lexes, IsParsedReading}
 use Rattle.pythran_main.proofs.Layers.{if_one}
 use Rattle.pythran_main.proofs.Modules.{lexed_as}
-use Rattle.pythran_main.proofs.module_form.read_module.Goals as goal
+use Rattle.pythran_main.proofs.reading.read_module.Goals as goal
 
 pub returns-in-Ok : goal.returns-in-Ok
 returns-in-Ok c =
