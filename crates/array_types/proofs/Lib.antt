@@ -1,3 +1,4 @@
 pub mod Lists
 pub mod Equations
 pub mod Weights
+pub mod Checks

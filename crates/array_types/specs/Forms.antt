@@ -125,7 +125,7 @@ operation_core o.Copy to vs r at = core.Map to (map_op.Un un.Copy) (opers_in vs)
 operation_core o.Where to vs r at = core.Map to map_op.Select (opers_in vs) at
 operation_core (o.Reduce op) to vs r at = core.Reduce to op (array_of vs) at
 operation_core (o.Fresh fill kind) to vs r at = core.Fresh to (opers_in vs) fill at
-operation_core (o.FreshLike fill kind) to vs r at = core.Fresh to (opers_in vs) fill at
+operation_core (o.FreshLike fill kind shape) to vs r at = core.Fresh to (opers_in vs) fill at
 operation_core o.Arange to vs r at = core.Fresh to (opers_in vs) Count at
 operation_core o.None to vs r at = core.Return []
 
@@ -203,12 +203,17 @@ extents_from found of axis (suc more) =
 
 -- the operands of an operation's own statement
 abbrev pub prepared : Operation → List Value → Ty → Walk (List Value)
-prepared (o.FreshLike fill kind) vs r = extents_from [] (array_of vs) 0 r.1
+prepared (o.FreshLike fill kind shape) vs r = extents_from [] (array_of vs) 0 r.1
 prepared _ vs r = pure vs
+
+-- the place of an operation without a row: that of `shape` where a new array has one
+abbrev pub tested_at : Operation → Loc → Loc
+tested_at (o.FreshLike fill kind shape) at = shape
+tested_at _ at = at
 
 abbrev pub applied : Operation → Loc → List Value → Target → Walk Value
 applied op at vs target =
-    need (row_of op (types_in vs)) at >>= λ r. prepared op vs r >>=
+    need (row_of op (types_in vs)) (tested_at op at) >>= λ r. prepared op vs r >>=
     λ args. made target r (λ n. operation_core op n args r at)
 
 -- the type of an array with subscripts

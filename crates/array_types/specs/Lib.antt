@@ -1,5 +1,6 @@
 pub mod Rows
 pub mod Walk
+pub mod Checked
 pub mod Forms
 pub mod Shapes
 pub mod Modules

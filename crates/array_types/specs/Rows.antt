@@ -135,7 +135,7 @@ unary_operation (o.Extent k) a = if_axis (axis_of a.1 k)
 unary_operation o.Transpose a = array_row a
 unary_operation o.Copy a = array_row a
 unary_operation (o.Reduce op) a = reduce_type op a
-unary_operation (o.FreshLike fill kind) a = like_row kind a
+unary_operation (o.FreshLike fill kind shape) a = like_row kind a
 unary_operation o.Arange a = counting_row a
 unary_operation _ a = None
 

@@ -229,7 +229,7 @@ pub fn operation_core(
             fill,
             at,
         }),
-        Operation::FreshLike(fill, _) => Ok(Core::Fresh {
+        Operation::FreshLike(fill, _, _) => Ok(Core::Fresh {
             to,
             dims: args,
             fill,

@@ -3,13 +3,17 @@
 #![tactic(auto)]
 
 mod body;
+mod checked;
 mod cores;
+mod fitting;
 mod instances;
 mod modules;
 mod rows;
 mod shape;
 mod state;
 mod steps;
+#[cfg(test)]
+mod tests;
 mod walk;
 
 pub use modules::typed_terms;

@@ -2,9 +2,11 @@
 ghost use Rattle.std.specs.Prelude.{◌≡◌, ◌++◌, [], IfOk, OnOk, option_to_list};
 ghost use Rattle.std.specs.List.{list_all};
 ghost use Rattle.array_types.specs.Modules as spec;
+ghost use Rattle.eager_rules.specs.Sound.{IsTyped};
 ghost use Rattle.array_types.specs.Walk.{Walks};
 
 use crate::body::enter;
+use crate::checked::is_checked;
 use crate::instances::{functions, type_of_param};
 use crate::state::{Key, Signature, State};
 use eager_rules::{Instance, Program};
@@ -119,7 +121,8 @@ pub fn typed_terms(
     routines: &[Routine],
     signatures: &[Signature],
 ) -> Result<Program, Stop>
-    ensures { spec.IsProgramOf routines.now signatures.now result }
+    ensures program { spec.IsProgramOf routines.now signatures.now result }
+    ensures typed { IfOk result IsTyped }
 {
     let names = functions(alloc, routines)?;
     let mut state = State {
@@ -142,5 +145,10 @@ pub fn typed_terms(
         rets: _,
     } = state;
     let instances = complete(alloc, instances)?;
-    Ok(Program { instances, kernels })
+    let program = Program { instances, kernels };
+    if is_checked(alloc, &program)? {
+        Ok(program)
+    } else {
+        Err(Stop::Memory)
+    }
 }

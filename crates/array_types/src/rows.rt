@@ -11,7 +11,7 @@ ghost use Rattle.array_types.specs.Rows as spec;
 use crate::state::{Ty, Value};
 use array_ops::RedOp;
 use eager_rules::{CoreSub, Oper};
-use krn_base::{BinOp, Kind};
+use krn_base::{BinOp, Kind, UnOp};
 use module_terms::Operation;
 
 /// Whether two kinds are one.
@@ -52,7 +52,8 @@ fn joint(a: Kind, b: Kind) -> Kind
     }
 }
 
-fn bin_kind(op: BinOp, a: Kind, b: Kind) -> Option<Kind>
+/// The kind of an operator's result, if it has a row for these kinds.
+pub fn bin_kind(op: BinOp, a: Kind, b: Kind) -> Option<Kind>
     ensures { result ≡ core_types.bin_kind op a b }
 {
     match op {
@@ -68,7 +69,8 @@ fn bin_kind(op: BinOp, a: Kind, b: Kind) -> Option<Kind>
     }
 }
 
-fn with_rank(rank: u8, kind: Option<Kind>) -> Option<Ty>
+/// A kind with a rank.
+pub fn with_rank(rank: u8, kind: Option<Kind>) -> Option<Ty>
     ensures { result ≡ core_types.with_rank rank kind }
 {
     match kind {
@@ -83,6 +85,28 @@ fn int_only(kind: Kind) -> Option<Kind>
     match kind {
         Kind::Int64 => Some(Kind::Int64),
         Kind::Bool => None,
+    }
+}
+
+/// The kind of an operation on one operand, if it has a row for this kind.
+pub fn un_kind(op: UnOp, a: Kind) -> Option<Kind>
+    ensures { result ≡ core_types.un_kind op a }
+{
+    match op {
+        UnOp::Neg | UnOp::Inv | UnOp::Abs => int_only(a),
+        UnOp::Pow(k) => {
+            if k <= 62 {
+                int_only(a)
+            } else {
+                None
+            }
+        }
+        UnOp::Flip => match a {
+            Kind::Int64 => None,
+            Kind::Bool => Some(Kind::Bool),
+        },
+        UnOp::Test => Some(Kind::Bool),
+        UnOp::Copy => Some(a),
     }
 }
 
@@ -202,7 +226,8 @@ fn extent(a: Ty, k: i64) -> Option<Ty>
     }
 }
 
-fn select_kind(mask: Kind, a: Kind, b: Kind) -> Option<Kind>
+/// The kind of a choice by a mask.
+pub fn select_kind(mask: Kind, a: Kind, b: Kind) -> Option<Kind>
     ensures { result ≡ core_types.select_kind mask a b }
 {
     match mask {
@@ -232,7 +257,8 @@ fn reduce_kind(op: RedOp, kind: Kind) -> Kind
     }
 }
 
-fn reduction(op: RedOp, a: Ty) -> Option<Ty>
+/// The type of an array's reduction.
+pub fn reduction(op: RedOp, a: Ty) -> Option<Ty>
     ensures { result ≡ core_types.reduce_type op a }
 {
     match a {
@@ -326,7 +352,7 @@ fn unary(op: Operation, a: Ty) -> Option<Ty>
         Operation::Extent(k) => extent(a, k),
         Operation::Transpose | Operation::Copy => array(a),
         Operation::Reduce(op) => reduction(op, a),
-        Operation::FreshLike(_, kind) => like(kind, a),
+        Operation::FreshLike(_, kind, _) => like(kind, a),
         Operation::Arange => counting(a),
         _ => None,
     }
@@ -403,7 +429,7 @@ pub fn put_fits(target: Ty, value: Ty) -> bool
 }
 
 /// The type of an operand under a table of the names' types.
-fn type_of(names: &[Ty], x: Oper) -> Option<Ty>
+pub fn type_of(names: &[Ty], x: Oper) -> Option<Ty>
     ensures { result ≡ core_types.type_of names.now x }
 {
     match x {
@@ -413,7 +439,8 @@ fn type_of(names: &[Ty], x: Oper) -> Option<Ty>
     }
 }
 
-fn is_int(names: &[Ty], x: Oper) -> bool
+/// Whether an operand is a scalar int.
+pub fn is_int(names: &[Ty], x: Oper) -> bool
     ensures { result ≡ core_types.is_number (core_types.type_of names.now x) }
 {
     match type_of(names, x) {
@@ -443,7 +470,7 @@ fn sub_fits(names: &[Ty], sub: CoreSub) -> bool
 }
 
 /// Whether all subscripts are scalar ints, or slices by such.
-fn all_fit(names: &[Ty], subs: &[CoreSub]) -> bool
+pub fn all_fit(names: &[Ty], subs: &[CoreSub]) -> bool
     ensures { result ≡ list_all (core_types.sub_fits names.now) subs.now }
 {
     for sub in subs {
@@ -474,7 +501,7 @@ pub fn is_element(a: Ty, subs: &[CoreSub]) -> bool
 }
 
 /// The type of a view by subscripts.
-fn view(a: Ty, subs: &[CoreSub]) -> Option<Ty>
+pub fn view(a: Ty, subs: &[CoreSub]) -> Option<Ty>
     ensures { result ≡ core_types.pick_type a subs.now }
 {
     let rank = usize::from(a.1);

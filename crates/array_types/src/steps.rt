@@ -74,13 +74,23 @@ fn prepared(
     ensures { Walks (spec.prepared op values r state.old) result state.new }
 {
     match op {
-        Operation::FreshLike(_, _) => extents(
+        Operation::FreshLike(_, _, _) => extents(
             alloc,
             cores::array_of(values.as_slice()),
             r.1,
             state,
         ),
         _ => Ok(values),
+    }
+}
+
+/// The place of an operation whose operands have no row: that of `shape` where a new array has one.
+fn tested_at(op: Operation, at: Loc) -> Loc
+    ensures { result ≡ spec.tested_at op at }
+{
+    match op {
+        Operation::FreshLike(_, _, shape) => shape,
+        _ => at,
     }
 }
 
@@ -95,7 +105,7 @@ pub fn applied(
 ) -> Result<Value, Stop>
     ensures { Walks (spec.applied op at values target state.old) result state.new }
 {
-    let r = need(rows::row(op, values.as_slice()), at, state)?;
+    let r = need(rows::row(op, values.as_slice()), tested_at(op, at), state)?;
     let args = prepared(op, values, r, alloc, state)?;
     let n = bind(target, r, state)?;
     emit(

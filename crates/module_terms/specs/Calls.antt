@@ -54,7 +54,7 @@ second_kind k (x ∷ rest) keyed = None
 abbrev pub shape_of : Reached → Shape
 shape_of (r.Tuple at items) = shape.Dims items
 shape_of (r.Attribute x name) =
-    if is_word (codes "shape") name then shape.Like x else shape.Dims (attribute x name ∷ [])
+    if is_word (codes "shape") name then shape.Like x name.loc else shape.Dims (attribute x name ∷ [])
 shape_of (r.Value x) = shape.Dims (x ∷ [])
 shape_of (r.Named name) = shape.Dims (t.Name name ∷ [])
 shape_of (r.Member name) = shape.Dims (finish (r.Member name) ∷ [])
@@ -63,12 +63,12 @@ abbrev pub by_dims : Option Kind → Fill → ℕ → Operation
 by_dims (Some k) fill n = if nat_le 1 n && nat_le n 4 then op.Fresh fill k else op.None
 by_dims None fill n = op.None
 
-abbrev pub by_array : Option Kind → Fill → Operation
-by_array (Some k) fill = op.FreshLike fill k
-by_array None fill = op.None
+abbrev pub by_array : Option Kind → Fill → Loc → Operation
+by_array (Some k) fill at = op.FreshLike fill k at
+by_array None fill at = op.None
 
 abbrev pub shaped : Name → Fill → Option Kind → Shape → List Term → Term
-shaped name fill k (shape.Like x) more = t.Apply (by_array k fill) name.loc (x ∷ more)
+shaped name fill k (shape.Like x at) more = t.Apply (by_array k fill at) name.loc (x ∷ more)
 shaped name fill k (shape.Dims dims) more = t.Apply (by_dims k fill (length dims)) name.loc (dims ++ more)
 
 abbrev pub split_first : {A : Type 0} → List A → Option (A × List A)

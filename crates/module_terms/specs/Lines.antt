@@ -4,7 +4,11 @@ use Rattle.export_sig.specs.declared.directive.Directive.{Directive}
 use Rattle.krn_base.specs.declared.operation.BinOp.{BinOp}
 use Rattle.krn_base.specs.declared.operation.Join.{Join}
 use Rattle.krn_base.specs.declared.place.Loc.{Loc}
-use Rattle.py_parse.specs.declared.tree.Expr.{Expr}
+use Rattle.py_parse.specs.declared.tree.Expr.{Expr, out-Expr}
+use Rattle.py_parse.specs.declared.tree.Expr.TheOpen.{Expr-F}
+use Rattle.py_parse.specs.declared.tree.Arg.{Arg}
+use Rattle.py_parse.specs.declared.tree.Sub.{Sub}
+use Rattle.py_parse.specs.declared.tree.Trailer.{Trailer}
 use Rattle.py_parse.specs.declared.tree.Function.{Function}
 use Rattle.py_parse.specs.declared.tree.Import.{Import}
 use Rattle.py_parse.specs.declared.tree.Module.{Module}
@@ -72,6 +76,15 @@ given None = []
 abbrev pub joined : List (List Line) → List Line
 joined blocks = flat_map (λ b. b) blocks
 
+-- the values of a `return`: those of a tuple, where that is the one value
+abbrev values_by : List Expr → Expr-F Expr Sub Trailer Arg → List Expr
+values_by values (Expr-F.Tuple at items) = items
+values_by values _ = values
+
+abbrev pub values_in : List Expr → List Expr
+values_in (x ∷ []) = values_by (x ∷ []) (out-Expr x)
+values_in values = values
+
 module _ (imports : List Import) where
   -- an `elif` is an `if` in the `else` of the one before it
   abbrev pub branches : List (Loc × Expr × List (List Line)) → List Line → List Line
@@ -79,7 +92,7 @@ module _ (imports : List Import) where
   branches (arm ∷ arms) last = l.If arm.0 (term imports arm.1) (joined arm.2) (branches arms last) ∷ []
 
   abbrev pub returned : Loc → List Expr → List Line
-  returned at values = l.Return at (terms imports values) ∷ []
+  returned at values = l.Return at (terms imports (values_in values)) ∷ []
 
   abbrev pub alone_line : Expr → List Line
   alone_line x = given (alone (term imports x))

@@ -55,6 +55,16 @@ fn give(line: Option<Line>, out: &mut Seq<Line>) -> Result<(), AllocError>
     }
 }
 
+/// The values of a `return`: those of a tuple, where that is the one value.
+fn values_in(values: &[Expr]) -> &[Expr]
+    ensures { result.now ≡ spec.values_in values.now }
+{
+    match values {
+        [Expr::Tuple(_, items)] => items.as_slice(),
+        _ => values,
+    }
+}
+
 fn add_return(
     at: Loc,
     values: &[Expr],
@@ -63,7 +73,7 @@ fn add_return(
 ) -> Result<(), AllocError>
     ensures { OnOk result (out.new ≡ out.old ++ spec.returned numpy.now.imports.now at values.now) }
 {
-    let values = terms(values, numpy)?;
+    let values = terms(values_in(values), numpy)?;
     out.push(Line::Return(at, values))
 }
 

@@ -8,7 +8,7 @@ use crate::reached::{Reached, finish, finish_all};
 use crate::rows::{is_word, numpy_kind, own_kind};
 use crate::term::{Operation, Term};
 use array_ops::Fill;
-use krn_base::{Kind, Seq};
+use krn_base::{Kind, Loc, Seq};
 use py_parse::Name;
 use std::alloc::{AllocError, Global};
 
@@ -49,8 +49,8 @@ fn second_kind(kind: &Reached, rest: &[Reached], keyed: &[Reached]) -> Option<Ki
 /// What the first argument says of a shape.
 #[derive(Drop)]
 enum Shape {
-    /// That of the one operand, an array.
-    Like(Term),
+    /// That of the one operand, an array, by `shape` at this place.
+    Like(Term, Loc),
     /// An operand for each dimension.
     Dims(Seq<Term>),
 }
@@ -62,7 +62,7 @@ fn shape_of(alloc: Global, reached: Reached) -> Result<Shape, AllocError>
         Reached::Tuple(_, items) => Ok(Shape::Dims(items)),
         Reached::Attribute(x, name) => {
             if is_word(b"shape", &name) {
-                Ok(Shape::Like(x))
+                Ok(Shape::Like(x, name.loc))
             } else {
                 let dim = finish(alloc, Reached::Attribute(x, name))?;
                 Ok(Shape::Dims(one(alloc, dim)?))
@@ -92,11 +92,11 @@ fn by_dims(kind: Option<Kind>, fill: Fill, dims: usize) -> Operation
     }
 }
 
-fn by_array(kind: Option<Kind>, fill: Fill) -> Operation
-    ensures { result ≡ spec.by_array kind fill }
+fn by_array(kind: Option<Kind>, fill: Fill, at: Loc) -> Operation
+    ensures { result ≡ spec.by_array kind fill at }
 {
     match kind {
-        Some(kind) => Operation::FreshLike(fill, kind),
+        Some(kind) => Operation::FreshLike(fill, kind, at),
         None => Operation::None,
     }
 }
@@ -112,10 +112,10 @@ fn shaped(
     ensures { IfOk result (λ term. term ≡ spec.shaped name.now fill kind (spec.shape_of shape) more) }
 {
     match shape_of(alloc, shape)? {
-        Shape::Like(x) => {
+        Shape::Like(x, at) => {
             let mut operands = one(alloc, x)?;
             append(&mut operands, more)?;
-            Ok(Term::Apply(by_array(kind, fill), name.loc, operands))
+            Ok(Term::Apply(by_array(kind, fill, at), name.loc, operands))
         }
         Shape::Dims(dims) => {
             let operation = by_dims(kind, fill, dims.len());

@@ -41,8 +41,8 @@ pub enum Operation {
     Reduce(RedOp),
     /// `numpy.zeros`, `numpy.ones` or `numpy.empty` of this kind, by an operand for each dimension.
     Fresh(Fill, Kind),
-    /// The same of the shape of its one operand, an array.
-    FreshLike(Fill, Kind),
+    /// The same of the shape of its one operand, an array, asked for by `shape` at this place.
+    FreshLike(Fill, Kind, Loc),
     /// `numpy.arange(n)`.
     Arange,
     /// A call that no row of the tables has: with another number of arguments, or with a kind that it doesn't take. It

@@ -99,7 +99,7 @@ static EXPRESSIONS: [(&str, &str); 49] = [
     ),
     (
         "n.empty(a.shape, bool)",
-        "Apply(FreshLike(Zero, Bool), 3:8, [Name([97] 3:14)])",
+        "Apply(FreshLike(Zero, Bool, 3:16), 3:8, [Name([97] 3:14)])",
     ),
     (
         "n.zeros((1, 2, 3, 4, 5), int)",
