@@ -83,7 +83,7 @@ static REPORTS: [Call; 10] = [
         TWO,
         "run m.py times buf:A=1,2,3 buf:B=1,2 p=@A q=@B",
         1,
-        "fault ValueError 7:14\nbuffer A int64 (3,) 1 2 3\nbuffer B int64 (2,) 1 2\n\
+        "fault ValueError 7:11\nbuffer A int64 (3,) 1 2 3\nbuffer B int64 (2,) 1 2\n\
         counts nests 0 temps 0 parallel 0 serial 0\n",
         "",
     ),
@@ -206,7 +206,7 @@ static MODULES: [(&str, &str, &str, &str); 35] = [
     ("", HEAD, "a.sum", "refused Profile 3:14\n"),
     ("", HEAD, "a + c", "refused Name 3:16\n"),
     ("", "def add(a, a):", "a + a", "refused Name 2:12\n"),
-    ("", "def add(add, b):", "add + b", "refused Name 2:9\n"),
+    ("", "def add(add, b):", "b + b", "refused Name 2:9\n"),
     ("", "def add(a, max):", "a + max", "refused Profile 3:16\n"),
     ("import os\n", HEAD, "a + b", "refused Name 1:8\n"),
     // chains, and types

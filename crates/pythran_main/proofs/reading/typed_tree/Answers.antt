@@ -9,4 +9,4 @@ returns c =
     typed_so (routines c.args.tree.now c.args.directives.now) c.as_slice.result.now
     (map (numbered c.args.tree.now) c.args.signatures.now) c.as_slice-2.result.now c.typed_terms.result
     (c.as_slice.ensures ∙ c.in_ok-routines.ensures) (c.as_slice-2.ensures ∙ c.in_ok-numbered.ensures)
-    c.typed_terms.ensures
+    c.typed_terms.ensures.program
