@@ -48,7 +48,8 @@ module _ (rows : Rows) (marks : List Bool) where
           let there : g < length old = subst (λ n. g < n) (sym is.count_is) lt in
           met g there ∙ elim (before_or_here f end below) [
             | inl less ↦ or_left (marked old g) (has_callee g (row rows end)) (is.whole g lt (f, less, m, c))
-            | inr same ↦ or_right (marked old g) (has_callee g (row rows end)) (subst (λ n. calls rows n g ≡ true) same c)
+            | inr same ↦ or_right (marked old g) (has_callee g (row rows end))
+                (subst (λ n. calls rows n g ≡ true) same c)
           ]
 
   pub called_no : (end : ℕ) (out : List Bool) → AreCalled rows marks end out → marked marks end ≡ false

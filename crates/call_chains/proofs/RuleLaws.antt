@@ -1,5 +1,6 @@
 -- The first refused call, and the clauses of the rule.
-use Rattle.std.proofs.Common.{◌≡◌, ℕ, ◌+◌, ◌<◌, ◌≤◌, ◌==◌, ◌⊎◌, Bool, true, false, List, [], ◌∷◌, ◌++◌, length, zero, suc}
+use Rattle.std.proofs.Common.{◌≡◌, ℕ, ◌+◌, ◌<◌, ◌≤◌, ◌==◌, ◌⊎◌, Bool, true, false, List, [], ◌∷◌, ◌++◌, length, zero}
+use Rattle.std.proofs.Common.{suc}
 use Rattle.std.proofs.Common.{Option, Some, None, Result, Ok, Err, refl, ap, sym, subst, ◌∙◌, inl, inr, arith}
 use Rattle.std.proofs.lemmas.Bool.Decides.{nat_tests}
 use Rattle.std.proofs.lemmas.List.Elements.{Contains-append_left, Contains-push, Contains-push_cases}
@@ -195,7 +196,8 @@ module _ (rows : Rows) (exported : List ℕ) where
   pub row_ends : (caller : ℕ) (first : Option Loc) → IsLeast (SoFar rows exported caller (row rows caller)) first
       → IsLeastBelow rows exported (caller + 1) first
   row_ends caller first is =
-      least_same (SoFar rows exported caller (row rows caller)) (RefusedBelow rows exported (caller + 1)) first forth back is
+      least_same (SoFar rows exported caller (row rows caller)) (RefusedBelow rows exported (caller + 1)) first forth
+      back is
     where
       forth : (x : Loc) → SoFar rows exported caller (row rows caller) x → RefusedBelow rows exported (caller + 1) x
       forth x (inl (f, lt, among)) = (f, omega (arith, lt), among)

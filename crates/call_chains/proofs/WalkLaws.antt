@@ -1,6 +1,7 @@
 -- The walk along calls.
 use Rattle.std.proofs.Common.{◌≡◌, ℕ, ◌+◌, ◌<◌, ◌≤◌, ◌==◌, ◌⊎◌, Bool, true, false, not, ◌||◌, List, [], ◌∷◌, ◌++◌}
-use Rattle.std.proofs.Common.{length, set, replicate, refl, ap, sym, ◌∙◌, subst, inl, inr, arith, length-append, length-set}
+use Rattle.std.proofs.Common.{length, set, replicate, refl, ap, sym, ◌∙◌, subst, inl, inr, arith, length-append}
+use Rattle.std.proofs.Common.{length-set}
 use Rattle.std.proofs.lemmas.List.Elements.{Contains-append_left, Contains-push, Contains-push_cases}
 use Rattle.std.specs.List.{Contains, list_any, count_by}
 use Rattle.call_chains.specs.Chains.{Rows, row, has_callee, calls, IsChain}
@@ -8,7 +9,8 @@ use Rattle.call_chains.specs.Sets.{marked, AreReached}
 use Rattle.call_chains.specs.Walks.{marks_of, work_of, left, Grows, IsSpread}
 use Rattle.call_chains.specs.declared.reach.Walk.{Walk}
 use Rattle.call_chains.proofs.MarkLaws.{not_true, or_cases, or_left, or_right, or_assoc, or_false, same_number}
-use Rattle.call_chains.proofs.MarkLaws.{number_itself, marked_within, marked_set, none_marked, set_unmarked, calls_within}
+use Rattle.call_chains.proofs.MarkLaws.{number_itself, marked_within, marked_set, none_marked, set_unmarked}
+use Rattle.call_chains.proofs.MarkLaws.{calls_within}
 use Rattle.call_chains.proofs.MarkLaws.{number_among, among_number}
 
 none_in : (f : ℕ) → Contains [] f → ⊥
@@ -117,7 +119,8 @@ module _ (rows : Rows) (starts : List ℕ) where
 
       sound : (g : ℕ) → marked (marks_of new) g ≡ true → (before : List ℕ) × IsChain rows starts g before
       sound g h =
-          let there : g < length (marks_of old) = subst (λ n. g < n) grows.count_is (marked_within (marks_of new) g h) in
+          let there : g < length (marks_of old) =
+          subst (λ n. g < n) grows.count_is (marked_within (marks_of new) g h) in
           elim (or_cases (marked (marks_of old) g) (list_any (λ f. f == g) starts) (sym (grows.marks g there) ∙ h)) [
             | inl e ↦ absurd (none g e)
             | inr e ↦ ([], number_among starts g e)
@@ -149,7 +152,8 @@ module _ (rows : Rows) (starts : List ℕ) where
 
       sound : (g : ℕ) → marked (marks_of new) g ≡ true → (before : List ℕ) × IsChain rows starts g before
       sound g h =
-          let there : g < length (marks_of mid) = subst (λ n. g < n) grows.count_is (marked_within (marks_of new) g h) in
+          let there : g < length (marks_of mid) =
+          subst (λ n. g < n) grows.count_is (marked_within (marks_of new) g h) in
           elim (or_cases (marked (marks_of mid) g) (has_callee g (row rows f)) (sym (grows.marks g there) ∙ h)) [
             | inl e ↦ is.sound g (back g e)
             | inr e ↦ let (before, chain) = is.sound f met in (f ∷ before, (e, chain))

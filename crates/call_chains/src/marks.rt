@@ -1,6 +1,6 @@
 //! Sets of functions, as marks by their numbers.
 
-ghost use Rattle.std.specs.Prelude.{◌≡◌, ◌<◌, ◌||◌, ◌==◌, IfOk, ℕ, length, slice_index_or, slice_set, false, true, replicate};
+ghost use Rattle.std.specs.Prelude.{◌≡◌, IfOk, slice_set, false, true, replicate};
 ghost use Rattle.call_chains.specs.Chains as spec;
 ghost use Rattle.call_chains.specs.Sets.{marked};
 

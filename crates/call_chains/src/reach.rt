@@ -1,9 +1,9 @@
 //! The functions to which chains of calls lead.
 
-ghost use Rattle.std.specs.Prelude.{◌≡◌, ◌<◌, ◌==◌, ◌++◌, ◌∷◌, [], IfOk, IfSome, OnOk, ℕ, map, IsNone, length, replicate, false};
+ghost use Rattle.std.specs.Prelude.{◌≡◌, ◌==◌, ◌++◌, ◌∷◌, [], IfOk, IfSome, OnOk, IsNone, replicate, false};
 ghost use Rattle.std.specs.List.{list_any};
 ghost use Rattle.call_chains.specs.Chains as spec;
-ghost use Rattle.call_chains.specs.Sets.{marked, AreReached};
+ghost use Rattle.call_chains.specs.Sets.{AreReached};
 ghost use Rattle.call_chains.specs.Walks.{Grows, IsSpread, marks_of, work_of};
 
 use crate::graph::OwnCall;

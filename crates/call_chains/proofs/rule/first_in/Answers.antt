@@ -16,7 +16,8 @@ loop-call-preserved c =
     let calls = c.row-calls.result.now in
     let i = c.loop-call.call-index in
     let at : i < length calls = omega arith in
-    subst (λ (cs : List OwnCall). IsLeast (SoFar chains.rows.now chains.exported.now c.args.caller cs) c.in_ok-first.first)
+    subst (λ (cs : List OwnCall). IsLeast (SoFar chains.rows.now chains.exported.now c.args.caller cs)
+    c.in_ok-first.first)
     (sym (take_more calls i _ at)) (c.in_ok-first.ensures (take i calls) c.loop-call.invariant)
 
 pub returns : goal.returns

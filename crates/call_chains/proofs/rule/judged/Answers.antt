@@ -13,5 +13,6 @@ returns c =
     let chains = c.in_ok-chains.chains in (
       refl,
       first_so c.args.rows.now chains.rows.now c.args.exported.now chains.exported.now c.in_ok-first_of.field-0
-          c.in-Some.loc c.in_ok-chains.ensures.rows c.in_ok-chains.ensures.exported c.in-Some.is c.in_ok-first_of.ensures,
+          c.in-Some.loc c.in_ok-chains.ensures.rows c.in_ok-chains.ensures.exported c.in-Some.is
+          c.in_ok-first_of.ensures,
     )

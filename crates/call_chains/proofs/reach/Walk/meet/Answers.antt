@@ -6,6 +6,7 @@ use Rattle.call_chains.proofs.reach.Walk.meet.Goals as goal
 
 pub returns-in_ok-push : goal.returns-in_ok-push
 returns-in_ok-push c =
-    let there : c.args.f < length (marks_of c.args.self.now) = omega (arith, c.if-f-len.true, c.len.ensures, c.args.self.now.marks.ok) in
+    let there : c.args.f < length (marks_of c.args.self.now) =
+    omega (arith, c.if-f-len.true, c.len.ensures, c.args.self.now.marks.ok) in
     let new : marked (marks_of c.args.self.now) c.args.f ≡ false = grind (arith) in
     grows_by_one c.args.f c.args.self.now _ refl c.in_ok-push.ensures.items there new
