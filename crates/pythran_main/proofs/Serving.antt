@@ -1,6 +1,7 @@
 -- Short kernels: what they give depends on no other instance, and they take no powers.
 use Rattle.std.proofs.Common.{◌≡◌, ◌∙◌, ap, sym, refl, subst, ℕ, ◌+◌, Bool, true, false, ◌&&◌, List, [], ◌∷◌, ◌++◌, map}
-use Rattle.std.proofs.Common.{length, if◌then◌else◌, Option, Some, None, slice_get, rules, zero, suc, Result, Ok, Err, IfOk}
+use Rattle.std.proofs.Common.{length, if◌then◌else◌, Option, Some, None, slice_get, rules, zero, suc}
+use Rattle.std.proofs.Common.{Result, Ok, Err, IfOk}
 use Rattle.std.specs.List.{list_all}
 use Rattle.krn_base.specs.declared.place.Loc.{Loc}
 use Rattle.view_places.specs.declared.shape.Array.{Array}
@@ -24,7 +25,8 @@ use Rattle.eager_rules.specs.declared.program.Program.{Program}
 use Rattle.export_sig.specs.declared.directive.Directive.{Directive}
 use Rattle.export_sig.specs.declared.signature.Signature.{Signature}
 use Rattle.module_names.specs.Places.{sooner, sooner_of, soonest}
-use Rattle.pythran_main.specs.Kernel.{outcome_in, outcome_at, outcome_on, is_short_operation, is_short_by, is_short_pair}
+use Rattle.pythran_main.specs.Kernel.{outcome_in, outcome_at, outcome_on, is_short_operation, is_short_by}
+use Rattle.pythran_main.specs.Kernel.{is_short_pair}
 use Rattle.pythran_main.specs.Kernel.{returns_by, is_short_body, is_short, is_there, is_served, are_served, alone_with}
 use Rattle.pythran_main.specs.Kernel.{alone_at, alone, Params, are_operands, returns, note_at, kernel_marks}
 use Rattle.pythran_main.specs.Kernel.{directive_mark, unserved}
@@ -124,7 +126,8 @@ same_block some others body p =
     let R : Core = core.Return p.values in
     let Means : Type 0 = Meaning State in
     let first : meaning some M ≡ meaning others M =
-    fold_map Means (statement some) p.to p.op p.args p.at ∙ sym (fold_map Means (statement others) p.to p.op p.args p.at) in
+    fold_map Means (statement some) p.to p.op p.args p.at
+    ∙ sym (fold_map Means (statement others) p.to p.op p.args p.at) in
     let last : meaning some R ≡ meaning others R =
     fold_return Means (statement some) p.values ∙ sym (fold_return Means (statement others) p.values) in
     ap (block some) p.is

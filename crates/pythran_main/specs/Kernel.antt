@@ -40,8 +40,8 @@ outcome_at instances arrays args (Some number) = outcome_in instances arrays arg
 abbrev pub outcome_on : Program → ℕ → List Array → List Bound → Outcome
 outcome_on program kernel arrays args = outcome_at program.instances arrays args (slice_get program.kernels kernel)
 
--- ---- short kernels (this project's own limit, while other kernels have no compiled form): one element operation, a sum
--- or a product, on two parameters that are arrays, and the return of its result
+-- ---- short kernels (this project's own limit, while other kernels have no compiled form): one element operation, a
+-- sum or a product, on two parameters that are arrays, and the return of its result
 
 abbrev pub is_sum_or_product : BinOp → Bool
 is_sum_or_product Add = true

@@ -12,7 +12,8 @@ returns c =
     let rows = own_calls c.args.tree.now in
     let numbers = c.as_slice.result.now in
     let e = c.recursion.ensures in
-    subst (λ (ns : List ℕ). Answered (IsOne (Tests Recursion (IsAccepted rows ns) (IsFirst rows ns))) c.recursion.result)
+    subst (λ (ns : List ℕ). Answered (IsOne (Tests Recursion (IsAccepted rows ns) (IsFirst rows ns)))
+    c.recursion.result)
     (c.as_slice.ensures.value ∙ c.in_ok-numbers.ensures)
     (tested Recursion (IsAccepted rows numbers) (IsFirst rows numbers) c.recursion.result (Refuses rows numbers)
     (λ r h. h) e.ok e.refused e.only e.place)

@@ -9,5 +9,5 @@ pub returns : goal.returns
 returns c =
     let places = profile_places c.args.tree.now in
     let e = c.profile.ensures in
-    tested Profile (places ≡ []) (λ at. IsFirst at places) c.profile.result (RefusesAt Profile places) (λ r h. h) e.ok e.refused e.only
-    e.place
+    tested Profile (places ≡ []) (λ at. IsFirst at places) c.profile.result (RefusesAt Profile places) (λ r h. h)
+    e.ok e.refused e.only e.place

@@ -9,5 +9,5 @@ pub returns : goal.returns
 returns c =
     let places = name_places c.args.tree.now in
     let e = c.names.ensures in
-    tested Name (places ≡ []) (λ at. IsFirst at places) c.names.result (RefusesAt Name places) (λ r h. h) e.ok e.refused e.only
-    e.place
+    tested Name (places ≡ []) (λ at. IsFirst at places) c.names.result (RefusesAt Name places) (λ r h. h)
+    e.ok e.refused e.only e.place
