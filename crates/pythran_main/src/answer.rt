@@ -81,7 +81,7 @@ fn run_bound(alloc: Global, program: Program, bound: BoundCall) -> Result<Report
     })
 }
 
-/// What a request of this program comes to.
+/// What a request of this program comes to. Kernels are numbered within 31 bits.
 fn answer_program(
     alloc: Global,
     program: Program,
@@ -93,6 +93,9 @@ fn answer_program(
         (bind (spec.heads_of program) request.now.kernel.now (texts request.now.items.now)) []) result }
 {
     let heads = heads_of(alloc, &program)?;
+    if heads.len() >= 1 << 31 {
+        return Err(Trouble::Memory);
+    }
     match bind(alloc, heads.as_slice(), request.kernel, request.items)? {
         Ok(bound) => Ok(run_bound(alloc, program, bound)?),
         Err(number) => Err(Trouble::RefusedItem(number)),

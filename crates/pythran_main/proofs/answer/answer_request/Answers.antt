@@ -5,8 +5,8 @@ use Rattle.pythran_main.proofs.Loads.{called_so, refused_alone}
 use Rattle.pythran_main.proofs.Modules.{read_is_served}
 use Rattle.pythran_main.proofs.answer.answer_request.Goals as goal
 
-pub answer_program-requires-served : goal.answer_program-requires-served
-answer_program-requires-served c =
+pub answer_program-requires-clause-served : goal.answer_program-requires-clause-served
+answer_program-requires-clause-served c =
     let one = subst (IsOneReading c.args.file.now) c.in-Ok.is c.in_ok-program.ensures in
     read_is_served c.args.file.now c.in-Ok.program one.gives
 

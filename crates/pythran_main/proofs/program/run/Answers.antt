@@ -6,8 +6,10 @@ use Rattle.pythran_main.proofs.program.run.Goals as goal
 
 pub eager-requires : goal.eager-requires
 eager-requires c =
-    ap (λ (p : Program). bodies_small p.instances) c.in_ok-found.ensures
-    ∙ alone_small c.args.program c.requires c.args.kernel c.args.call.now
+    record {
+      small = ap (λ (p : Program). bodies_small p.instances) c.in_ok-found.ensures
+          ∙ alone_small c.args.program c.requires c.args.kernel c.args.call.now;
+    }
 
 pub returns : goal.returns
 returns c =

@@ -1,5 +1,6 @@
-use Rattle.std.proofs.Common.{sym, subst, Err}
+use Rattle.std.proofs.Common.{sym, subst, Err, IfOk, List}
 use Rattle.export_sig.specs.Directives.{AreDirectives, IsDirectiveRefusal}
+use Rattle.export_sig.specs.declared.directive.Directive.{Directive}
 use Rattle.krn_base.specs.declared.refusal.Refusal.{Refusal}
 use Rattle.pythran_main.specs.Layers.{IsOne}
 use Rattle.pythran_main.specs.Reading.{Directs, IsDirectedReading, IsExportedReading}
@@ -13,7 +14,8 @@ returns-in-Ok c =
     let tree = c.args.tree.now in
     if_one (Directs tree) (IsDirectedReading tree c.args.signatures.now) c.in-Ok.found c.read_forms.result
     (listed_as (AreDirectives tree) (IsDirectiveRefusal tree) c.in-Ok.found e.directives e.only e.place)
-    c.read_forms.ensures
+    (subst (λ (ds : List Directive). IfOk c.read_forms.result (IsOne (IsDirectedReading tree c.args.signatures.now ds)))
+    c.as_slice.ensures c.read_forms.ensures)
 
 pub returns-in-Err-Refused : goal.returns-in-Err-Refused
 returns-in-Err-Refused c =

@@ -1,5 +1,6 @@
-use Rattle.std.proofs.Common.{sym, subst, Err}
+use Rattle.std.proofs.Common.{sym, subst, Err, IfOk, List}
 use Rattle.export_sig.specs.Exports.{AreExports, IsExportRefusal}
+use Rattle.export_sig.specs.declared.signature.Signature.{Signature}
 use Rattle.krn_base.specs.declared.refusal.Refusal.{Refusal}
 use Rattle.pythran_main.specs.Layers.{IsOne}
 use Rattle.pythran_main.specs.Reading.{Exports, IsExportedReading, IsTreeReading}
@@ -13,7 +14,8 @@ returns-in-Ok c =
     let tree = c.args.tree.now in
     if_one (Exports tree) (IsExportedReading tree) c.in-Ok.signatures c.read_directives.result
     (listed_as (AreExports tree) (IsExportRefusal tree) c.in-Ok.signatures e.signatures e.only e.place)
-    c.read_directives.ensures
+    (subst (λ (ss : List Signature). IfOk c.read_directives.result (IsOne (IsExportedReading tree ss)))
+    c.as_slice.ensures c.read_directives.ensures)
 
 pub returns-in-Err-Refused : goal.returns-in-Err-Refused
 returns-in-Err-Refused c =

@@ -8,5 +8,5 @@ pub returns : goal.returns
 returns c =
     typed_so (routines c.args.tree.now c.args.directives.now) c.as_slice.result.now
     (map (numbered c.args.tree.now) c.args.signatures.now) c.as_slice-2.result.now c.typed_terms.result
-    (c.as_slice.ensures ∙ c.in_ok-routines.ensures) (c.as_slice-2.ensures ∙ c.in_ok-numbered.ensures)
+    (c.as_slice.ensures ∙ c.in_ok-routines.ensures.terms) (c.as_slice-2.ensures ∙ c.in_ok-numbered.ensures)
     c.typed_terms.ensures.program
