@@ -175,6 +175,37 @@ module _ (signatures : List Signature) (directives : List Directive) where
       by_first (Some at) is same = absurd (some_ok p at program same)
 
 pub read_is_served : (file : List ℕ) (program : Program) → IsReading file (Ok program) → are_served program ≡ true
-read_is_served file program (ts, l, (tree, t, (signatures, s, (directives, d, (f, forms, (n, named, (c, chained, (p,
-    typed, serves)))))))) =
+read_is_served file program (
+  ts,
+  l,
+  (
+    tree,
+    t,
+    (
+      signatures,
+      s,
+      (
+        directives,
+        d,
+        (
+          f,
+          forms,
+          (
+            n,
+            named,
+            (
+              c,
+              chained,
+              (
+                p,
+                typed,
+                serves,
+              ),
+            ),
+          ),
+        ),
+      ),
+    ),
+  ),
+) =
     served_so signatures directives p program serves

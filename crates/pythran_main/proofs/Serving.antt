@@ -168,7 +168,7 @@ module _ (program : Program) (served : are_served program ≡ true) (kernel : �
   of_instance None h = absurd (false_true h)
   of_instance (Some f) h =
       let same = same_block (calls_at (f ∷ []) 1) (calls_at program.instances (length program.instances)) f.body
-          (pair_in f.params f.body h) in
+      (pair_in f.params f.body h) in
       ap (λ (m : Meaning State). ended f.rets (length call.buffers) (m (entered f Args (map (λ a. a.words)
       call.buffers)))) same
 

@@ -82,11 +82,7 @@ fn run_bound(alloc: Global, program: Program, bound: BoundCall) -> Result<Report
 }
 
 /// What a request of this program comes to. Kernels are numbered within 31 bits.
-fn answer_program(
-    alloc: Global,
-    program: Program,
-    request: &Request<'_>,
-) -> Result<Report, Trouble>
+fn answer_program(alloc: Global, program: Program, request: &Request<'_>) -> Result<Report, Trouble>
     requires served { are_served program ≡ true }
     requires items { length request.now.items.now < 2 ^ 31 }
     ensures { Prepared (IsCalled (source_of program)

@@ -38,10 +38,7 @@ fn numbers_of(
 {
     let mut numbers = Vec::new(alloc);
     for signature in signatures {
-        numbers.push(number_of(
-            tree.functions.as_slice(),
-            signature.name.text.as_slice(),
-        ))?;
+        numbers.push(number_of(tree.functions.as_slice(), signature.name.text.as_slice()))?;
     }
     Ok(numbers)
 }
@@ -50,10 +47,7 @@ fn numbers_of(
 fn numbered(tree: &Module, signature: &Signature) -> Result<NumberedSignature, NoMemory>
     ensures { IfOk result (λ found. found ≡ reading.numbered tree.now signature.now) }
 {
-    let number = number_of(
-        tree.functions.as_slice(),
-        signature.name.text.as_slice(),
-    );
+    let number = number_of(tree.functions.as_slice(), signature.name.text.as_slice());
     if number >= 1 << 32 {
         return Err(NoMemory);
     }

@@ -77,9 +77,7 @@ fn is_short_pair(params: &[(Text, ParamType)], first: &Core, last: &Core) -> boo
             args,
             at: _,
         } => {
-            is_short_operation(*op)
-                && are_operands(params, args.as_slice())
-                && returns(*to, last)
+            is_short_operation(*op) && are_operands(params, args.as_slice()) && returns(*to, last)
         }
         _ => false,
     }
@@ -138,7 +136,12 @@ fn first_kernel(signatures: &[Signature], program: &Program) -> Option<Loc>
     let kernels = program.kernels.as_slice();
     let mut first = None;
     for number in 0..kernels.len() {
-        let place = kernel_mark(signatures, program.instances.as_slice(), number, kernels[number]);
+        let place = kernel_mark(
+            signatures,
+            program.instances.as_slice(),
+            number,
+            kernels[number],
+        );
         first = sooner(first, place);
     }
     first

@@ -213,14 +213,24 @@ static MODULES: [(&str, &str, &str, &str); 35] = [
     ("", HEAD, "a + add(a, b)", "refused Recursion 3:16\n"),
     ("", HEAD, "a and b", "refused Type 3:14\n"),
     ("", HEAD, "a[0, 0]", "refused Type 3:13\n"),
-    ("", "def add(a, b):\n    c = 1\n    c = a", "c", "refused Retype 4:5\n"),
+    (
+        "",
+        "def add(a, b):\n    c = 1\n    c = a",
+        "c",
+        "refused Retype 4:5\n",
+    ),
     // what isn't served
     ("", HEAD, "a - b", PROFILE),
     ("", HEAD, "a + b, a", PROFILE),
     ("", HEAD, "a + b + a", PROFILE),
     ("", HEAD, "a + 1", PROFILE),
     ("", HEAD, "a", PROFILE),
-    ("def f(x): return x\n", HEAD, "f(a) + b", "refused Profile 2:1\n"),
+    (
+        "def f(x): return x\n",
+        HEAD,
+        "f(a) + b",
+        "refused Profile 2:1\n",
+    ),
     (
         "def f(x):\n    # omp parallel for\n    for i in range(3): pass\n",
         HEAD,
