@@ -2,7 +2,6 @@ mod Layers
 mod Lists
 pub mod Loads
 pub mod Modules
-pub mod Rows
 pub mod Saves
 pub mod Serving
 pub mod Theorem

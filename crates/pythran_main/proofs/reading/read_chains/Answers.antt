@@ -10,8 +10,8 @@ returns-in-Ok c =
     let tree = c.args.tree.now in
     let signatures = c.args.signatures.now in
     let directives = c.args.directives.now in
-    if_one (Chains tree signatures) (λ _. IsTypedReading tree signatures directives) tt c.read_types.result c.in-Ok.ensures
-    c.read_types.ensures
+    if_one (Chains tree signatures) (λ _. IsTypedReading tree signatures directives) tt c.read_types.result
+    c.in-Ok.ensures c.read_types.ensures
 
 pub returns-in-Err-Refused : goal.returns-in-Err-Refused
 returns-in-Err-Refused c =
