@@ -6,7 +6,7 @@ ghost use Rattle.module_names.specs.Places as spec;
 use krn_base::{Loc, Refusal, Rule, Stop};
 
 /// Whether a place stands before another in the text.
-fn is_before(a: Loc, b: Loc) -> bool
+pub fn is_before(a: Loc, b: Loc) -> bool
     ensures { result ≡ spec.is_before a b }
 {
     a.line < b.line || (a.line == b.line && a.col < b.col)

@@ -11,5 +11,8 @@ mod set;
 mod tests;
 mod words;
 
-pub use forms::profile;
+pub use forms::{begins_with_call, profile};
+pub use least::{is_before, sooner};
+pub use listing::{Listing, list_function};
 pub use naming::names;
+pub use node::{Maker, Node, Role, name_in};

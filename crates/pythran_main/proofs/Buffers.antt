@@ -1,6 +1,6 @@
 -- What the buffers of a call hold in the end, and what is stored of them.
 use Rattle.std.proofs.Common.{◌≡◌, ◌∙◌, ℕ, suc, arith, ◌<◌, ℤ, Bool, true, false, List, [], ◌∷◌, ◌++◌}
-use Rattle.std.proofs.Common.{map, length, take, Result, Ok}
+use Rattle.std.proofs.Common.{map, length, take, Result, Ok, Option, None, slice_get}
 use Rattle.std.proofs.Common.{Err, Some, is_some, refl, sym, ap, subst, IfOk, rules}
 use Rattle.std.proofs.Math.Seq.{take-append_seam}
 use Rattle.std.proofs.lemmas.List.{length-map}
@@ -8,7 +8,6 @@ use Rattle.std.proofs.lemmas.List.Elements.{All-nil, All-cons, All-head, All-tai
 use Rattle.std.specs.List.{All, AllByRecursion}
 use Rattle.array_ops.specs.Elements.{Bound}
 use Rattle.array_ops.specs.declared.operation.MapOp.{MapOp}
-use Rattle.array_ops.specs.declared.operation.MapOp.TheVariants.{Bin}
 use Rattle.call_binding.specs.Fitting.{IsSave}
 use Rattle.call_binding.specs.Sound.{IsArray}
 use Rattle.call_binding.specs.declared.head.Save as bound_save
@@ -20,12 +19,12 @@ use Rattle.eager_rules.specs.Outcome.{ended}
 use Rattle.eager_rules.specs.State.{State, bind}
 use Rattle.eager_rules.specs.Works.{made_new}
 use Rattle.eager_rules.specs.declared.outcome.Outcome.{Outcome}
-use Rattle.eager_rules.specs.declared.program.Core.{the_lemmas}
+use Rattle.eager_rules.specs.declared.program.Core.{Core, the_lemmas}
 use Rattle.eager_rules.specs.declared.program.Core.TheOpen as c
 use Rattle.eager_rules.specs.declared.program.Core.TheVariants as core
 use Rattle.eager_rules.specs.declared.program.Instance.{Instance}
 use Rattle.eager_rules.specs.declared.program.Oper.{Oper}
-use Rattle.eager_rules.specs.declared.program.Oper.TheVariants.{Name}
+use Rattle.eager_rules.specs.declared.program.Program.{Program}
 use Rattle.krn_base.specs.declared.kind.Kind.{Kind}
 use Rattle.krn_base.specs.declared.fault.Fault.{Fault}
 use Rattle.krn_base.specs.declared.kind.Kind.TheVariants.{Int64, Bool as BoolKind}
@@ -36,10 +35,10 @@ use Rattle.call_binding.specs.Binding.{BoundMeaning}
 use Rattle.call_report.specs.Report.{report_of}
 use Rattle.pythran_main.specs.Answer.{with_words, final_arrays, saved_of, buffer_heads, counts_of, counted}
 use Rattle.pythran_main.specs.Answer.{Product, product_of}
-use Rattle.pythran_main.specs.Kernel.{instance_of, outcome_on}
+use Rattle.pythran_main.specs.Kernel.{outcome_in, outcome_at, outcome_on, is_there, are_served}
 use Rattle.pythran_main.specs.Saves.{Save}
 use Rattle.pythran_main.specs.Steps.{KeepsBuffers}
-use Rattle.pythran_main.specs.declared.kernel.ShortKernel.{ShortKernel}
+use Rattle.pythran_main.proofs.Serving.{IsPair, pair_in, served_at, false_true}
 
 -- ---- arrays that may be written
 
@@ -196,24 +195,36 @@ first_ones arrays xs ys e (more, f) =
     ap (λ (l : List (List ℤ)). take (length arrays) l) (f ∙ ap (λ (l : List (List ℤ)). l ++ more) e)
     ∙ ap (λ (n : ℕ). take n (words ++ more)) count ∙ take-append_seam words more
 
-left : (k : ShortKernel) (arrays : List Array) (args : List Bound)
-    → (outcome_on (instance_of k) arrays args).buffers ≡ words_in arrays
-left k arrays args =
-    let f : Instance = instance_of k in
-    let calls : Calls = calls_at (f ∷ []) 1 in
-    let start : State = entered f args (words_in arrays) in
-    let operands : List Oper = Name k.left ∷ Name k.right ∷ [] in
-    let values : List Oper = Name 2 ∷ [] in
-    ended_buffers f.rets (length arrays) (block calls f.body start)
-    ∙ first_ones arrays start.buffers (block calls f.body start).0.buffers (bound_buffers _ args _)
-    (two (meaning calls (core.Map 2 (Bin k.op) operands k.at)) (meaning calls (core.Return values))
-    (mapped calls 2 (Bin k.op) operands k.at) (returned calls values) start)
+module _ (program : Program) (served : are_served program ≡ true) (kernel : ℕ) (arrays : List Array)
+    (args : List Bound) where
+  left_instance : (o : Option Instance) → is_there o ≡ true
+      → (outcome_in program.instances arrays args o).buffers ≡ words_in arrays
+  left_instance None h = absurd (false_true h)
+  left_instance (Some f) h =
+      let p : IsPair f.body = pair_in f.params f.body h in
+      let calls : Calls = calls_at program.instances (length program.instances) in
+      let start : State = entered f args (words_in arrays) in
+      ended_buffers f.rets (length arrays) (block calls f.body start)
+      ∙ first_ones arrays start.buffers (block calls f.body start).0.buffers (bound_buffers _ args _)
+      (subst (λ (body : List Core). Extends start.buffers (block calls body start).0.buffers) (sym p.is)
+      (two (meaning calls (core.Map p.to p.op p.args p.at)) (meaning calls (core.Return p.values))
+      (mapped calls p.to p.op p.args p.at) (returned calls p.values) start))
 
-pub keeps_buffers : {E : Type 0} (k : ShortKernel) (arrays : List Array) (args : List Bound) (made : Result Outcome E)
-    → All IsFilled arrays → IfOk made (λ o. o ≡ outcome_on (instance_of k) arrays args)
-    → IfOk made (λ o. KeepsBuffers arrays o.buffers)
-keeps_buffers k arrays args (Err e) filled is = tt
-keeps_buffers k arrays args (Ok o) filled is =
+  left_number : (o : Option ℕ) → slice_get program.kernels kernel ≡ o
+      → (outcome_at program.instances arrays args o).buffers ≡ words_in arrays
+  left_number None is = refl
+  left_number (Some number) is =
+      left_instance (slice_get program.instances number)
+      (served_at program.instances program.kernels kernel number served is)
+
+  left : (outcome_on program kernel arrays args).buffers ≡ words_in arrays
+  left = left_number (slice_get program.kernels kernel) refl
+
+pub keeps_buffers : {E : Type 0} (program : Program) → are_served program ≡ true → (kernel : ℕ) (arrays : List Array)
+    (args : List Bound) (made : Result Outcome E) → All IsFilled arrays
+    → IfOk made (λ o. o ≡ outcome_on program kernel arrays args) → IfOk made (λ o. KeepsBuffers arrays o.buffers)
+keeps_buffers program served kernel arrays args (Err e) filled is = tt
+keeps_buffers program served kernel arrays args (Ok o) filled is =
     let same : words_in arrays ≡ o.buffers =
-    sym (ap (λ (x : Outcome). x.buffers) is ∙ left k arrays args) in
+    sym (ap (λ (x : Outcome). x.buffers) is ∙ left program served kernel arrays args) in
     subst (KeepsBuffers arrays) same (kept_words arrays filled)

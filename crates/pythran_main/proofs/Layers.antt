@@ -1,7 +1,10 @@
 -- Where each of two layers has one reading, so have both.
 use Rattle.std.proofs.Common.{◌≡◌, inl, inr, Result, Ok, Err, IfOk, subst, refl}
 use Rattle.krn_base.specs.declared.refusal.Refusal.{Refusal}
+use Rattle.krn_base.specs.declared.refusal.Stop.{Stop}
+use Rattle.krn_base.specs.declared.refusal.Stop.TheVariants as stop
 use Rattle.pythran_main.specs.Layers.{Then, IsOne}
+use Rattle.pythran_main.specs.Reading.{Answered}
 
 same_ok : {A : Type 0} (x y : A) → (let P : Result A Refusal = Ok x in P) ≡ Ok y → x ≡ y
 same_ok x y h = cc
@@ -52,3 +55,9 @@ pub if_one : {A B E : Type 0} (first : Result A Refusal → Type 0) (next : A �
     → IfOk result (IsOne (Then first next))
 if_one first next a (Ok found) one two = then_one first next a found one two
 if_one first next a (Err e) one two = tt
+
+-- where a layer refuses
+pub refused_one : {A B : Type 0} (first : Result A Refusal → Type 0) (next : A → Result B Refusal → Type 0) (s : Stop)
+    (r : Refusal) → s ≡ stop.Refused r → Answered (IsOne first) (Err s) → IsOne (Then first next) (Err r)
+refused_one {A = A} first next s r is one =
+    let P : Stop → Type 0 = λ x. Answered (IsOne first) (Err x) in then_none first next r (subst P is one)

@@ -3,6 +3,6 @@ mod Layers
 mod Lists
 pub mod Loads
 pub mod Modules
-pub mod Programs
 pub mod Saves
+pub mod Serving
 pub mod Theorem

@@ -11,6 +11,7 @@ use Rattle.call_binding.specs.declared.head.BindStop.{BindStop}
 use Rattle.call_binding.specs.declared.head.BindStop.TheVariants as stop
 use Rattle.call_binding.specs.declared.head.BoundCall.{BoundCall}
 use Rattle.call_binding.specs.declared.head.KernelHead.{KernelHead}
+use Rattle.eager_rules.specs.declared.program.Program.{Program}
 use Rattle.host_io.specs.Counts.{Rose}
 use Rattle.host_io.specs.Files.{Held, Untold, Missing, Bytes}
 use Rattle.host_io.specs.declared.files.Files as files_trait
@@ -25,7 +26,6 @@ use Rattle.pythran_main.specs.Request.{Asked}
 use Rattle.pythran_main.specs.Steps.{Prepared, Prepares, CallsTo, LeadsTo, IsUnloaded, stopped}
 use Rattle.pythran_main.specs.World.{Filed, AreKept, files_of}
 use Rattle.pythran_main.specs.declared.answer.Report.{Report}
-use Rattle.pythran_main.specs.declared.kernel.ShortKernel.{ShortKernel}
 use Rattle.pythran_main.specs.declared.trouble.Trouble.{Trouble}
 use Rattle.pythran_main.specs.declared.trouble.Trouble.TheVariants as trouble
 use Rattle.pythran_main.proofs.Saves.{rose_since}
@@ -168,15 +168,15 @@ module _ (asked : Asked) (source : Source) (held : List ℕ → Held) (heads : L
 
 module _ (asked : Asked) (file : List ℕ) where
   -- another answer follows from the same reading
-  followed : (held : List ℕ → Held) (read : Result ShortKernel Refusal) (arrays : List (Option Array)) (other : Answer)
+  followed : (held : List ℕ → Held) (read : Result Program Refusal) (arrays : List (Option Array)) (other : Answer)
       → IsOneReading file read → IsRead asked held (Whole file) arrays other
       → IsFollowed asked held (source_in read) arrays other
   followed held read arrays other one (found, (as_read, reading, is), follows) =
       let P : Result Source Refusal → Type 0 = λ x. IsFollowed asked held x arrays other in
-      let Q : Result ShortKernel Refusal → Type 0 = λ x. IsFollowed asked held (source_in x) arrays other in
+      let Q : Result Program Refusal → Type 0 = λ x. IsFollowed asked held (source_in x) arrays other in
       subst Q (one.alone as_read reading) (subst P is follows)
 
-  module _ (k : ShortKernel) (one : IsOneReading file (Ok k)) where
+  module _ (k : Program) (one : IsOneReading file (Ok k)) where
     abbrev bound : List (Option Array) → Binding
     bound arrays = bind (source_of k).heads asked.kernel asked.items arrays
 

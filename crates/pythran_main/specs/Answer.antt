@@ -7,6 +7,8 @@ use Rattle.krn_base.specs.declared.refusal.Refusal.{Refusal}
 use Rattle.view_places.specs.declared.shape.Array.{Array}
 use Rattle.eager_rules.specs.declared.outcome.Counts.{Counts}
 use Rattle.eager_rules.specs.declared.outcome.Outcome.{Outcome}
+use Rattle.eager_rules.specs.declared.program.Instance.{Instance}
+use Rattle.eager_rules.specs.declared.program.Program.{Program}
 use Rattle.call_binding.specs.Binding.{BoundMeaning, Binding, bind}
 use Rattle.call_binding.specs.Binding as binding
 use Rattle.call_binding.specs.Files.{AreRead, AreTold, IsTold}
@@ -16,12 +18,11 @@ use Rattle.call_report.specs.Report.{report_of}
 use Rattle.call_report.specs.declared.head.BufferHead.{BufferHead}
 use Rattle.host_io.specs.Files.{Held}
 use Rattle.np_file.specs.Npy.{npy_text}
-use Rattle.pythran_main.specs.Kernel.{instance_of, outcome_on}
+use Rattle.pythran_main.specs.Kernel.{outcome_on}
 use Rattle.pythran_main.specs.Loads.{Content, Whole, Longer, Gives, Loaded}
 use Rattle.pythran_main.specs.Reading.{IsReading}
 use Rattle.pythran_main.specs.Request.{Asked}
 use Rattle.pythran_main.specs.Saves.{Save}
-use Rattle.pythran_main.specs.declared.kernel.ShortKernel.{ShortKernel}
 
 -- what a command writes on the output, whether that has a fault line, and what it stores
 pub record Product : Type 0 where
@@ -81,9 +82,16 @@ product_of b run = record {
 
 -- ---- the sources of `run`
 
--- what binding needs of a short kernel
-abbrev pub head_of : ShortKernel → KernelHead
-head_of k = record { name = k.name; params = (instance_of k).params }
+-- what binding needs of the kernel whose instance has this number
+abbrev pub head_by : Option Instance → KernelHead
+head_by (Some f) = record { name = f.name; params = f.params }
+head_by None = record { name = []; params = [] }
+
+abbrev pub head_of : List Instance → ℕ → KernelHead
+head_of instances number = head_by (slice_get instances number)
+
+abbrev pub heads_of : Program → List KernelHead
+heads_of program = map (head_of program.instances) program.kernels
 
 -- one nest ran to its end, unless there was a fault
 abbrev pub counts_of : Outcome → Counts
@@ -93,19 +101,19 @@ counts_of outcome = record { nests = if is_some outcome.fault then 0 else 1; tem
 abbrev pub counted : Outcome → Run
 counted outcome = record { outcome = outcome; counts = Some (counts_of outcome) }
 
-abbrev pub source_of : ShortKernel → Source
-source_of k = record {
-  heads = head_of k ∷ [];
-  run = λ b. counted (outcome_on (instance_of k) b.arrays b.args);
+abbrev pub source_of : Program → Source
+source_of program = record {
+  heads = heads_of program;
+  run = λ b. counted (outcome_on program b.kernel b.arrays b.args);
 }
 
-abbrev pub source_in : Result ShortKernel Refusal → Result Source Refusal
-source_in (Ok k) = Ok (source_of k)
+abbrev pub source_in : Result Program Refusal → Result Source Refusal
+source_in (Ok program) = Ok (source_of program)
 source_in (Err r) = Err r
 
 -- the bytes of a request's source stand for this to it
 abbrev pub IsSource : Asked → List ℕ → Result Source Refusal → Type 0
-IsSource asked file found = (read : Result ShortKernel Refusal) × IsReading file read × (found ≡ source_in read)
+IsSource asked file found = (read : Result Program Refusal) × IsReading file read × (found ≡ source_in read)
 
 -- ---- the steps of an answer, each by what is loaded for it
 

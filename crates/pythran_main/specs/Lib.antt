@@ -1,11 +1,8 @@
 pub mod Answer
 pub mod Ending
-pub mod Form
 pub mod Kernel
 pub mod Layers
 pub mod Loads
-pub mod Module
-pub mod Operands
 pub mod Reading
 pub mod Request
 pub mod Saves

@@ -1,4 +1,4 @@
-ghost use Rattle.std.specs.Prelude.{◌≡◌, ◌<◌, ◌≤◌, ◌^◌, [], ◌∷◌, length, Some, IfOk};
+ghost use Rattle.std.specs.Prelude.{◌≡◌, ◌<◌, ◌≤◌, ◌^◌, length, true, Some, IfOk};
 ghost use Rattle.std.specs.List.{All};
 ghost use Rattle.call_binding.specs.Binding.{meaning as bound_meaning};
 ghost use Rattle.call_binding.specs.Fitting.{IsSave};
@@ -6,20 +6,20 @@ ghost use Rattle.call_binding.specs.Sound.{IsArray};
 ghost use Rattle.call_report.specs.Report.{report_of};
 ghost use Rattle.pythran_main.specs.Answer.{product_of, source_of};
 ghost use Rattle.pythran_main.specs.Answer as spec;
+ghost use Rattle.pythran_main.specs.Kernel.{are_served};
 ghost use Rattle.pythran_main.specs.Loads.{Whole};
 ghost use Rattle.pythran_main.specs.Request.{meaning};
 ghost use Rattle.pythran_main.specs.Steps.{product, Prepares, CallsTo, LeadsTo};
 ghost use Rattle.pythran_main.specs.World.{files_of, AreKept};
 
-use crate::kernel::ShortKernel;
-use crate::module_form::read_module;
-use crate::program::{params_of, run};
+use crate::program::{heads_of, run};
+use crate::reading::read_module;
 use crate::request::Request;
 use crate::saved_file::{SavedFile, run_files};
 use crate::trouble::Trouble;
-use call_binding::{BoundCall, KernelHead, bind};
+use call_binding::{BoundCall, bind};
 use call_report::{BufferHead, report};
-use eager_rules::{Counts, Outcome};
+use eager_rules::{Counts, Outcome, Program};
 use host_io::Files;
 use krn_base::{NoMemory, Seq, Text};
 use std::alloc::{AllocError, Global};
@@ -33,25 +33,6 @@ pub struct Report {
     pub has_fault: bool,
     /// The files to be stored, in order.
     pub saves: Seq<SavedFile>,
-}
-
-/// The kernel's name and parameters.
-fn head_of(alloc: Global, kernel: &ShortKernel) -> Result<KernelHead, AllocError>
-    ensures { IfOk result (λ head. head ≡ spec.head_of kernel.now) }
-{
-    Ok(KernelHead {
-        name: kernel.name.try_copy()?,
-        params: params_of(alloc, kernel)?,
-    })
-}
-
-/// The heads of the module's kernels, of which there is one.
-fn heads_of(alloc: Global, kernel: &ShortKernel) -> Result<Vec<KernelHead>, AllocError>
-    ensures { IfOk result (λ heads. heads.items ≡ spec.head_of kernel.now ∷ []) }
-{
-    let mut heads = Vec::new(alloc);
-    heads.push(head_of(alloc, kernel)?)?;
-    Ok(heads)
 }
 
 /// The buffers' names, kinds and shapes.
@@ -100,20 +81,21 @@ fn text_of(
     Ok(Seq::from_vec(text))
 }
 
-/// The report of the kernel's run on a bound call, and the files of its saved buffers.
-fn run_bound(alloc: Global, kernel: &ShortKernel, bound: BoundCall) -> Result<Report, NoMemory>
+/// The report of a kernel's run on a bound call, and the files of its saved buffers.
+fn run_bound(alloc: Global, program: Program, bound: BoundCall) -> Result<Report, NoMemory>
+    requires served { are_served program ≡ true }
     requires arrays { All IsArray bound.call.buffers }
     requires saves { All (IsSave bound.call.buffers) bound.saves }
     ensures { IfOk result (λ made. product made ≡
-        product_of (bound_meaning bound) ((source_of kernel.now).run (bound_meaning bound))) }
+        product_of (bound_meaning bound) ((source_of program).run (bound_meaning bound))) }
 {
     let BoundCall {
+        kernel,
         names,
         call,
         saves,
-        ..
     } = bound;
-    let outcome = run(alloc, kernel, &call)?;
+    let outcome = run(alloc, program, kernel, &call)?;
     let text = text_of(alloc, names.as_slice(), call.buffers.as_slice(), &outcome)?;
     let has_fault = outcome.fault.is_some();
     Ok(Report {
@@ -123,20 +105,24 @@ fn run_bound(alloc: Global, kernel: &ShortKernel, bound: BoundCall) -> Result<Re
     })
 }
 
-/// What a request of this kernel comes to.
-fn answer_kernel<F: Files>(
+/// What a request of this program comes to. Kernels are numbered within 31 bits.
+fn answer_program<F: Files>(
     alloc: Global,
-    kernel: &ShortKernel,
+    program: Program,
     request: &Request<'_>,
     files: &mut F,
 ) -> Result<Report, Trouble>
+    requires served { are_served program ≡ true }
     requires items { length request.now.items.now < 2 ^ 31 }
     ensures count { F.faults files.old ≤ F.faults files.new }
     ensures kept { AreKept (files_of F.Files files.old files.new) }
-    ensures prepared { Prepares (CallsTo (meaning request.now) (source_of kernel.now))
+    ensures prepared { Prepares (CallsTo (meaning request.now) (source_of program))
         (files_of F.Files files.old files.new) result }
 {
-    let heads = heads_of(alloc, kernel)?;
+    let heads = heads_of(alloc, &program)?;
+    if heads.len() >= 1 << 31 {
+        return Err(Trouble::Memory);
+    }
     match bind(
         alloc,
         heads.as_slice(),
@@ -144,7 +130,7 @@ fn answer_kernel<F: Files>(
         request.items,
         files,
     ) {
-        Ok(bound) => Ok(run_bound(alloc, kernel, bound)?),
+        Ok(bound) => Ok(run_bound(alloc, program, bound)?),
         Err(stop) => Err(Trouble::from(stop)),
     }
 }
@@ -166,7 +152,7 @@ pub fn answer_request<F: Files>(
         return Err(Trouble::Memory);
     }
     match read_module(alloc, file)? {
-        Ok(kernel) => answer_kernel(alloc, &kernel, request, files),
+        Ok(program) => answer_program(alloc, program, request, files),
         Err(refusal) => Err(Trouble::Refused(refusal)),
     }
 }

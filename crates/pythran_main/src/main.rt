@@ -12,12 +12,12 @@ mod command;
 mod deliver;
 #[cfg(test)]
 mod file_tests;
-mod kernel;
 mod load;
-mod module_form;
 mod program;
+mod reading;
 mod request;
 mod saved_file;
+mod served;
 #[cfg(test)]
 mod tests;
 mod trouble;

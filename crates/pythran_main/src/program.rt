@@ -1,76 +1,103 @@
-ghost use Rattle.std.specs.Prelude.{◌≡◌, IfOk, map, true};
+ghost use Rattle.std.specs.Prelude.{◌≡◌, IfOk, map, slice_get, true};
 ghost use Rattle.std.specs.List.{All};
 ghost use Rattle.eager_rules.specs.Fits.{IsFilled};
-ghost use Rattle.eager_rules.specs.Small.{bodies_small};
 ghost use Rattle.eager_rules.specs.State.{bound_to};
+ghost use Rattle.pythran_main.specs.Answer as answer;
 ghost use Rattle.pythran_main.specs.Kernel as spec;
-ghost use Rattle.pythran_main.specs.Kernel.{outcome_on};
 ghost use Rattle.pythran_main.specs.Steps.{KeepsBuffers};
 
-use crate::kernel::ShortKernel;
-use eager_rules::{Call, Core, Instance, MapOp, Oper, Outcome, Program, eager};
-use krn_base::{Kind, NoMemory, ParamType, Seq, Text};
+use call_binding::KernelHead;
+use eager_rules::{Call, Instance, Outcome, Program, eager};
+use krn_base::{NoMemory, ParamType, Seq, Text};
 use std::alloc::{AllocError, Global};
 
-/// The kernel's parameters with their types.
-pub fn params_of(alloc: Global, kernel: &ShortKernel) -> Result<Seq<(Text, ParamType)>, AllocError>
-    ensures { IfOk result (λ params. params ≡ (spec.instance_of kernel.now).params) }
+/// The same parameters.
+fn copy_params(
+    alloc: Global,
+    params: &[(Text, ParamType)],
+) -> Result<Seq<(Text, ParamType)>, AllocError>
+    ensures { IfOk result (λ copies. copies ≡ params.now) }
 {
-    let row = ParamType::Flat(Kind::Int64, 1);
-    let first = (kernel.first.try_copy()?, row);
-    let second = (kernel.second.try_copy()?, row);
-    Ok(Seq::from_vec(vec![in alloc; first, second]?))
+    let mut copies = Seq::new(alloc);
+    for param in params {
+        copies.push((param.0.try_copy()?, param.1))?;
+    }
+    Ok(copies)
 }
 
-/// The kernel's body: the operation, and the return of what it gives.
-fn body_of(alloc: Global, kernel: &ShortKernel) -> Result<Seq<Core>, AllocError>
-    ensures { IfOk result (λ body. body ≡ (spec.instance_of kernel.now).body) }
+/// What binding needs of the kernel whose instance has this number.
+fn head_of(alloc: Global, instances: &[Instance], number: u32) -> Result<KernelHead, AllocError>
+    ensures { IfOk result (λ head. head ≡ answer.head_of instances.now number) }
 {
-    let operands = vec![in alloc; Oper::Name(kernel.left), Oper::Name(kernel.right)]?;
-    let operation = Core::Map {
-        to: 2,
-        op: MapOp::Bin(kernel.op),
-        args: Seq::from_vec(operands),
-        at: kernel.at,
-    };
-    let values = Seq::from_vec(vec![in alloc; Oper::Name(2)]?);
-    Ok(Seq::from_vec(vec![in alloc; operation, Core::Return { values }]?))
+    match instances.get(number as usize) {
+        Some(instance) => Ok(KernelHead {
+            name: instance.name.try_copy()?,
+            params: copy_params(alloc, instance.params.as_slice())?,
+        }),
+        None => Ok(KernelHead {
+            name: Seq::new(alloc),
+            params: Seq::new(alloc),
+        }),
+    }
 }
 
-/// The kernel as an instance of the core.
-fn instance_of(alloc: Global, kernel: &ShortKernel) -> Result<Instance, AllocError>
-    ensures { IfOk result (λ instance. instance ≡ spec.instance_of kernel.now) }
+/// The names and parameters of a program's kernels, in their order.
+pub fn heads_of(alloc: Global, program: &Program) -> Result<Vec<KernelHead>, AllocError>
+    ensures { IfOk result (λ heads. heads.items ≡ answer.heads_of program.now) }
 {
-    let row = (Kind::Int64, 1);
-    Ok(Instance {
-        name: kernel.name.try_copy()?,
-        weight: kernel.weight,
-        params: params_of(alloc, kernel)?,
-        rets: Seq::from_vec(vec![in alloc; row]?),
-        names: Seq::from_vec(vec![in alloc; row, row, row]?),
-        body: body_of(alloc, kernel)?,
-    })
+    let instances = program.instances.as_slice();
+    let mut heads = Vec::new(alloc);
+    for number in program.kernels.as_slice() {
+        heads.push(head_of(alloc, instances, *number)?)?;
+    }
+    Ok(heads)
 }
 
-/// The program of a module with this kernel alone.
-#[tactic(auto, using(crate::proofs::Programs::small))]
-fn program_of(alloc: Global, kernel: &ShortKernel) -> Result<Program, AllocError>
-    ensures program { IfOk result (λ program. program ≡ spec.program_of kernel.now) }
-    ensures small { IfOk result (λ program. bodies_small program.instances ≡ true) }
+/// Takes the instance with this number out.
+fn taken(instances: Seq<Instance>, number: u32) -> Option<Instance>
+    ensures { result ≡ slice_get instances number }
 {
-    Ok(Program {
-        instances: Seq::from_vec(vec![in alloc; instance_of(alloc, kernel)?]?),
-        kernels: Seq::from_vec(vec![in alloc; 0]?),
-    })
+    let mut all = instances.into_vec();
+    let number = number as usize;
+    if number < all.len() {
+        Some(all.swap_remove(number))
+    } else {
+        None
+    }
 }
 
-/// What calling the kernel gives, one whole-array operation after another.
-pub fn run(alloc: Global, kernel: &ShortKernel, call: &Call) -> Result<Outcome, NoMemory>
-    requires { All IsFilled call.now.buffers }
+/// The program of an instance alone, where there is one.
+fn alone_with(alloc: Global, instance: Option<Instance>) -> Result<Program, AllocError>
+    ensures { IfOk result (λ program. program ≡ spec.alone_with instance) }
+{
+    let mut instances = Seq::new(alloc);
+    let mut kernels = Seq::new(alloc);
+    if let Some(instance) = instance {
+        instances.push(instance)?;
+        kernels.push(0)?;
+    }
+    Ok(Program { instances, kernels })
+}
+
+/// The program of the kernel with this number alone. A kernel that is served calls none.
+fn alone(alloc: Global, program: Program, kernel: u32) -> Result<Program, AllocError>
+    ensures { IfOk result (λ found. found ≡ spec.alone program kernel) }
+{
+    let Program { instances, kernels } = program;
+    match kernels.as_slice().get(kernel as usize) {
+        Some(number) => alone_with(alloc, taken(instances, *number)),
+        None => alone_with(alloc, None),
+    }
+}
+
+/// What calling a kernel gives, one whole-array operation after another.
+pub fn run(alloc: Global, program: Program, kernel: u32, call: &Call) -> Result<Outcome, NoMemory>
+    requires served { spec.are_served program ≡ true }
+    requires filled { All IsFilled call.now.buffers }
     ensures kept { IfOk result (λ outcome. KeepsBuffers call.now.buffers outcome.buffers) }
     ensures outcome { IfOk result (λ outcome. outcome ≡
-        outcome_on (spec.instance_of kernel.now) call.now.buffers (map bound_to call.now.args)) }
+        spec.outcome_on program kernel call.now.buffers (map bound_to call.now.args)) }
 {
-    let program = program_of(alloc, kernel)?;
-    eager(alloc, &program, 0, call)
+    let found = alone(alloc, program, kernel)?;
+    eager(alloc, &found, 0, call)
 }

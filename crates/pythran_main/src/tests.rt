@@ -15,6 +15,11 @@ const SUB: &str = "#pythran export add(int[], int[])\ndef add(a, b):\n    return
 
 const LEN: &str = "#pythran export len(int[], int[])\ndef len(a, b):\n    return a + b\n";
 
+/// Two kernels, a function that no export reaches, and an import.
+const TWO: &str = "import numpy as np\n#pythran export plus(int[], int[])\n\
+    #pythran export times(int[], int[])\ndef plus(a, b):\n    return b + a\ndef times(p, q):\n    c = p * q\n    \
+    return c\ndef other(a): return other(a)\n";
+
 const SHORT: &str = "def add(a, b): return a + b\n\n#pythran export add(int[], int[])";
 
 const ROW: &str = "return int64 (3,) 2 4 6\nbuffer A int64 (3,) 1 2 3\n\
@@ -23,7 +28,7 @@ const ROW: &str = "return int64 (3,) 2 4 6\nbuffer A int64 (3,) 1 2 3\n\
 /// A module, the words of a call, and its status, output and error output.
 type Call = (&'static str, &'static str, u8, &'static str, &'static str);
 
-static REPORTS: [Call; 8] = [
+static REPORTS: [Call; 10] = [
     (ADD, "run m.py add buf:A=1,2,3 a=@A b=@A", 0, ROW, ""),
     (ADD, "run m.py add a=@A buf:A=1,2,3 b=@A", 0, ROW, ""),
     (
@@ -67,6 +72,22 @@ static REPORTS: [Call; 8] = [
         "",
     ),
     (
+        TWO,
+        "run m.py times buf:A=1,2,3 p=@A q=@A",
+        0,
+        "return int64 (3,) 1 4 9\nbuffer A int64 (3,) 1 2 3\n\
+        counts nests 1 temps 0 parallel 0 serial 0\n",
+        "",
+    ),
+    (
+        TWO,
+        "run m.py times buf:A=1,2,3 buf:B=1,2 p=@A q=@B",
+        1,
+        "fault ValueError 7:11\nbuffer A int64 (3,) 1 2 3\nbuffer B int64 (2,) 1 2\n\
+        counts nests 0 temps 0 parallel 0 serial 0\n",
+        "",
+    ),
+    (
         SHORT,
         "run m.py add buf:A=1,2,3 buf:B=1,2 a=@A b=@B",
         1,
@@ -103,8 +124,8 @@ static REFUSALS: [Call; 16] = [
         "",
         "refused Profile 1:1\n",
     ),
-    ("", "run m.py add", 3, "", "refused Profile 1:1\n"),
-    (LEN, "run m.py len", 3, "", "refused Profile 1:1\n"),
+    ("", "run m.py add", 4, "", "error item 0\n"),
+    (LEN, "run m.py len", 3, "", "refused Name 2:5\n"),
     (
         ADD,
         "run m.py add buf:A=1,x a=@A b=@A",
@@ -147,15 +168,19 @@ const PROFILE: &str = "refused Profile 1:1\n";
 
 /// What stands before the note of a module, its `def` and its returned value: comments, blank lines, texts between, and
 /// other layouts of the same tree.
-static READINGS: [(&str, &str, &str); 4] = [
+static READINGS: [(&str, &str, &str); 8] = [
     ("# a sum\n\n", "def add(a, b):  # of rows\n", "a + b"),
     ("'a text'\n", HEAD, "a+b"),
     ("", "def add(\n  a, b,):", "a + b,"),
     ("", HEAD, "(a\n+ b)"),
+    ("", "def add(a, b):\n    'a text'", "a + b"),
+    ("import numpy\n", HEAD, "a + b"),
+    ("def f():\n    pass\n", HEAD, "a + b"),
+    ("", "def add(a, b):\n    c = a + b\n    pass", "c"),
 ];
 
 /// The same of modules that are refused, with what is told of them.
-static MODULES: [(&str, &str, &str, &str); 28] = [
+static MODULES: [(&str, &str, &str, &str); 35] = [
     // no tokens
     ("", HEAD, "a + 9223372036854775808", "refused Lex 3:16\n"),
     ("", "def add(a, b)", "a + 012", "refused Lex 3:16\n"),
@@ -176,19 +201,48 @@ static MODULES: [(&str, &str, &str, &str); 28] = [
     // no directives
     (OMP, HEAD, "a + b", "refused Directive 1:1\n"),
     ("# omp for\n", HEAD, "a $ b", "refused Lex 4:14\n"),
-    // another tree
+    // forms and names
+    ("", HEAD, "(a, b)[0]", "refused Profile 3:12\n"),
+    ("", HEAD, "a.sum", "refused Profile 3:14\n"),
+    ("", HEAD, "a + c", "refused Name 3:16\n"),
+    ("", "def add(a, a):", "a + a", "refused Name 2:12\n"),
+    ("", "def add(add, b):", "b + b", "refused Name 2:9\n"),
+    ("", "def add(a, max):", "a + max", "refused Profile 3:16\n"),
+    ("import os\n", HEAD, "a + b", "refused Name 1:8\n"),
+    // chains, and types
+    ("", HEAD, "a + add(a, b)", "refused Recursion 3:16\n"),
+    ("", HEAD, "a and b", "refused Type 3:14\n"),
+    ("", HEAD, "a[0, 0]", "refused Type 3:13\n"),
+    (
+        "",
+        "def add(a, b):\n    c = 1\n    c = a",
+        "c",
+        "refused Retype 4:5\n",
+    ),
+    // what isn't served
     ("", HEAD, "a - b", PROFILE),
-    ("", HEAD, "(a + b,)", PROFILE),
     ("", HEAD, "a + b, a", PROFILE),
     ("", HEAD, "a + b + a", PROFILE),
     ("", HEAD, "a + 1", PROFILE),
-    ("", HEAD, "a + c", PROFILE),
-    ("", "def add(a, b):\n    'a text'", "a + b", PROFILE),
-    ("", "def add(a, a):", "a + a", PROFILE),
-    ("", "def add(add, b):", "add + b", PROFILE),
-    ("", "def add(a, max):", "a + max", PROFILE),
-    ("import numpy\n", HEAD, "a + b", PROFILE),
-    ("def f():\n    pass\n", HEAD, "a + b", PROFILE),
+    ("", HEAD, "a", PROFILE),
+    (
+        "def f(x): return x\n",
+        HEAD,
+        "f(a) + b",
+        "refused Profile 2:1\n",
+    ),
+    (
+        "def f(x):\n    # omp parallel for\n    for i in range(3): pass\n",
+        HEAD,
+        "a + b",
+        "refused Profile 2:5\n",
+    ),
+    (
+        "#pythran export f(int)\ndef f(x): return x\n",
+        HEAD,
+        "a + b",
+        PROFILE,
+    ),
 ];
 
 const GOOD: &str = "run m.py add buf:A=1,2,3 a=@A b=@A";

@@ -1,0 +1,5 @@
+pub mod MarkLaws
+pub mod WalkLaws
+pub mod LayerLaws
+pub mod NumberLaws
+pub mod RuleLaws

@@ -1,0 +1,24 @@
+use Rattle.std.proofs.Common.{sym, subst, Err}
+use Rattle.krn_base.specs.declared.refusal.Refusal.{Refusal}
+use Rattle.pythran_main.specs.Layers.{IsOne}
+use Rattle.pythran_main.specs.Reading.{Types, Serves, IsTypedReading}
+use Rattle.pythran_main.proofs.Layers.{then_one, refused_one}
+use Rattle.pythran_main.proofs.reading.read_types.Goals as goal
+
+pub returns-in-Ok : goal.returns-in-Ok
+returns-in-Ok c =
+    let tree = c.args.tree.now in
+    let signatures = c.args.signatures.now in
+    let directives = c.args.directives.now in
+    then_one (Types tree signatures directives) (Serves signatures directives) c.in-Ok.program c.serve.result
+    c.in-Ok.ensures c.serve.ensures
+
+pub returns-in-Err-Refused : goal.returns-in-Err-Refused
+returns-in-Err-Refused c =
+    let tree = c.args.tree.now in
+    let signatures = c.args.signatures.now in
+    let directives = c.args.directives.now in
+    let P : Refusal → Type 0 = λ r. IsOne (IsTypedReading tree signatures directives) (Err r) in
+    subst P (sym c.in-Err-Refused.refused-is)
+    (refused_one (Types tree signatures directives) (Serves signatures directives) c.in-Err-Refused.field-0
+    c.in-Err-Refused.refused c.in-Err-Refused.field-0-is c.in-Err-Refused.ensures)

@@ -1,0 +1,11 @@
+use Rattle.std.proofs.Common.{◌∙◌, sym, ap, Option, Ok}
+use Rattle.krn_base.specs.declared.place.Loc.{Loc}
+use Rattle.pythran_main.specs.Reading.{served_by}
+use Rattle.pythran_main.proofs.Modules.{is_value}
+use Rattle.pythran_main.proofs.reading.serve.Goals as goal
+
+pub returns-in-None : goal.returns-in-None
+returns-in-None c = is_value _ _ (ap (served_by c.args.program) (sym c.first_unserved.ensures ∙ c.in-None.is))
+
+pub returns-in-Some : goal.returns-in-Some
+returns-in-Some c = is_value _ _ (ap (served_by c.args.program) (sym c.first_unserved.ensures ∙ c.in-Some.is))
