@@ -12,7 +12,7 @@ use export_sig::{Directive, Signature, directives, exports};
 use krn_base::{Loc, NoMemory, Refusal, Rule, Seq, Stop};
 use module_names::{names, profile};
 use module_terms::resolve;
-use py_lex::{Tokens, tokens};
+use py_lex::{Token, TokenKind, Tokens, tokens};
 use py_parse::{Function, Module, parse};
 use std::alloc::{AllocError, Global};
 
@@ -89,6 +89,25 @@ fn serve(
     }
 }
 
+/// The most tokens of a line whose terms are made: each operator and each trailer nests a term one level further, and
+/// going through a term takes the machine's stack.
+const MOST_TOKENS_OF_A_LINE: usize = 4_000;
+
+/// Whether a line of tokens is too long for its terms.
+fn has_long_line(tokens: &[Token]) -> bool {
+    let mut count: usize = 0;
+    for token in tokens {
+        count = match token.kind {
+            TokenKind::Newline => 0,
+            _ => count.saturating_add(1),
+        };
+        if count > MOST_TOKENS_OF_A_LINE {
+            return true;
+        }
+    }
+    false
+}
+
 /// The walk's program of a tree.
 fn typed_tree(
     alloc: Global,
@@ -106,12 +125,16 @@ fn typed_tree(
 /// What a tree is read as that the rules before the walk accept.
 fn read_types(
     alloc: Global,
+    has_long_line: bool,
     tree: &Module,
     signatures: &[Signature],
     directives: &[Directive],
 ) -> Result<Result<Program, Refusal>, NoMemory>
     ensures { IfOk result (IsOne (reading.IsTypedReading tree.now signatures.now directives.now)) }
 {
+    if has_long_line {
+        return Err(NoMemory);
+    }
     match typed_tree(alloc, tree, signatures, directives) {
         Ok(program) => Ok(serve(signatures, directives, program)),
         Err(Stop::Refused(refused)) => Ok(Err(refused)),
@@ -144,6 +167,7 @@ fn test_names(alloc: Global, tree: &Module) -> Result<(), Stop>
 /// What a tree is read as whose names are well.
 fn read_chains(
     alloc: Global,
+    has_long_line: bool,
     tree: &Module,
     signatures: &[Signature],
     directives: &[Directive],
@@ -151,7 +175,7 @@ fn read_chains(
     ensures { IfOk result (IsOne (reading.IsNamedReading tree.now signatures.now directives.now)) }
 {
     match test_chains(alloc, tree, signatures) {
-        Ok(()) => read_types(alloc, tree, signatures, directives),
+        Ok(()) => read_types(alloc, has_long_line, tree, signatures, directives),
         Err(Stop::Refused(refused)) => Ok(Err(refused)),
         Err(Stop::Memory) => Err(NoMemory),
     }
@@ -160,6 +184,7 @@ fn read_chains(
 /// What a tree is read as whose forms are well.
 fn read_names(
     alloc: Global,
+    has_long_line: bool,
     tree: &Module,
     signatures: &[Signature],
     directives: &[Directive],
@@ -167,7 +192,7 @@ fn read_names(
     ensures { IfOk result (IsOne (reading.IsFormedReading tree.now signatures.now directives.now)) }
 {
     match test_names(alloc, tree) {
-        Ok(()) => read_chains(alloc, tree, signatures, directives),
+        Ok(()) => read_chains(alloc, has_long_line, tree, signatures, directives),
         Err(Stop::Refused(refused)) => Ok(Err(refused)),
         Err(Stop::Memory) => Err(NoMemory),
     }
@@ -176,6 +201,7 @@ fn read_names(
 /// What a tree is read as whose notes are well.
 fn read_forms(
     alloc: Global,
+    has_long_line: bool,
     tree: &Module,
     signatures: &[Signature],
     directives: &[Directive],
@@ -183,7 +209,7 @@ fn read_forms(
     ensures { IfOk result (IsOne (reading.IsDirectedReading tree.now signatures.now directives.now)) }
 {
     match test_forms(alloc, tree) {
-        Ok(()) => read_names(alloc, tree, signatures, directives),
+        Ok(()) => read_names(alloc, has_long_line, tree, signatures, directives),
         Err(Stop::Refused(refused)) => Ok(Err(refused)),
         Err(Stop::Memory) => Err(NoMemory),
     }
@@ -192,24 +218,29 @@ fn read_forms(
 /// What a tree is read as whose export notes are well.
 fn read_directives(
     alloc: Global,
+    has_long_line: bool,
     tree: &Module,
     signatures: &[Signature],
 ) -> Result<Result<Program, Refusal>, NoMemory>
     ensures { IfOk result (IsOne (reading.IsExportedReading tree.now signatures.now)) }
 {
     match directives(alloc, tree) {
-        Ok(found) => read_forms(alloc, tree, signatures, found.as_slice()),
+        Ok(found) => read_forms(alloc, has_long_line, tree, signatures, found.as_slice()),
         Err(Stop::Refused(refused)) => Ok(Err(refused)),
         Err(Stop::Memory) => Err(NoMemory),
     }
 }
 
 /// What a tree is read as.
-fn read_tree(alloc: Global, tree: &Module) -> Result<Result<Program, Refusal>, NoMemory>
+fn read_tree(
+    alloc: Global,
+    has_long_line: bool,
+    tree: &Module,
+) -> Result<Result<Program, Refusal>, NoMemory>
     ensures { IfOk result (IsOne (reading.IsTreeReading tree.now)) }
 {
     match exports(alloc, tree) {
-        Ok(signatures) => read_directives(alloc, tree, signatures.as_slice()),
+        Ok(signatures) => read_directives(alloc, has_long_line, tree, signatures.as_slice()),
         Err(Stop::Refused(export)) => Ok(Err(export)),
         Err(Stop::Memory) => Err(NoMemory),
     }
@@ -225,7 +256,7 @@ fn read_tokens(
     ensures { IfOk result (IsOne (reading.IsParsedReading text.now tokens.now)) }
 {
     match parse(alloc, text, tokens) {
-        Ok(tree) => read_tree(alloc, &tree),
+        Ok(tree) => read_tree(alloc, has_long_line(tokens.tokens.as_slice()), &tree),
         Err(Stop::Refused(syntax)) => Ok(Err(syntax)),
         Err(Stop::Memory) => Err(NoMemory),
     }
@@ -233,7 +264,8 @@ fn read_tokens(
 
 /// The program of the module that the text is, or the refusal of the first rule that refuses it: `Lex`, `Syntax`,
 /// `Export`, `Directive`, `Profile`, `Name`, `Recursion`, then `Type` and `Retype` by one walk, and `Profile` again at
-/// the first note of a kernel or a directive that isn't served.
+/// the first note of a kernel or a directive that isn't served. Want of memory is also the answer where the rules
+/// before the walk accept a module that has a line of more than 4,000 tokens.
 pub fn read_module(alloc: Global, text: &[u8]) -> Result<Result<Program, Refusal>, NoMemory>
     requires { length text.now ≤ 2 ^ 31 }
     ensures { IfOk result (reading.IsOneReading text.now) }
