@@ -180,7 +180,7 @@ static READINGS: [(&str, &str, &str); 8] = [
 ];
 
 /// The same of modules that are refused, with what is told of them.
-static MODULES: [(&str, &str, &str, &str); 35] = [
+static MODULES_1: [(&str, &str, &str, &str); 9] = [
     // no tokens
     ("", HEAD, "a + 9223372036854775808", "refused Lex 3:16\n"),
     ("", "def add(a, b)", "a + 012", "refused Lex 3:16\n"),
@@ -192,6 +192,9 @@ static MODULES: [(&str, &str, &str, &str); 35] = [
     ("", HEAD, "a +", "refused Syntax 3:15\n"),
     ("", HEAD, "a < b < a", "refused Syntax 3:18\n"),
     ("", "x = 1", "a + b", "refused Syntax 2:1\n"),
+];
+
+static MODULES_2: [(&str, &str, &str, &str); 9] = [
     ("def\n", HEAD, "a + b", "refused Syntax 1:4\n"),
     // no signatures
     ("", "def add(a, b, c):", "a + b", "refused Export 1:1\n"),
@@ -204,6 +207,9 @@ static MODULES: [(&str, &str, &str, &str); 35] = [
     // forms and names
     ("", HEAD, "(a, b)[0]", "refused Profile 3:12\n"),
     ("", HEAD, "a.sum", "refused Profile 3:14\n"),
+];
+
+static MODULES_3: [(&str, &str, &str, &str); 9] = [
     ("", HEAD, "a + c", "refused Name 3:16\n"),
     ("", "def add(a, a):", "a + a", "refused Name 2:12\n"),
     ("", "def add(add, b):", "b + b", "refused Name 2:9\n"),
@@ -219,6 +225,9 @@ static MODULES: [(&str, &str, &str, &str); 35] = [
         "c",
         "refused Retype 4:5\n",
     ),
+];
+
+static MODULES_4: [(&str, &str, &str, &str); 8] = [
     // what isn't served
     ("", HEAD, "a - b", PROFILE),
     ("", HEAD, "a + b, a", PROFILE),
@@ -398,10 +407,52 @@ fn readings_of_modules(rt: HostRuntime) -> Result<(), Fail> {
 }
 
 #[test]
-fn refusals_of_modules(rt: HostRuntime) -> Result<(), Fail> {
+fn first_refusals_of_modules(rt: HostRuntime) -> Result<(), Fail> {
     let alloc = rt.alloc();
     let words = make_words(alloc, GOOD)?;
-    for (before, head, value, told) in MODULES {
+    for (before, head, value, told) in MODULES_1 {
+        let module = format!(in alloc; "{before}{NOTE}{head}\n    return {value}\n")?;
+        let (status, out, err) = call(&rt, alloc, module.as_bytes(), words.as_slice(), FINE)?;
+        assert_eq!(rt; status, 3, "{module}");
+        assert_eq!(rt; out.written().len(), 0, "{module}");
+        assert_eq!(rt; err.written(), told.as_bytes(), "{module}");
+    }
+    Ok(())
+}
+
+#[test]
+fn second_refusals_of_modules(rt: HostRuntime) -> Result<(), Fail> {
+    let alloc = rt.alloc();
+    let words = make_words(alloc, GOOD)?;
+    for (before, head, value, told) in MODULES_2 {
+        let module = format!(in alloc; "{before}{NOTE}{head}\n    return {value}\n")?;
+        let (status, out, err) = call(&rt, alloc, module.as_bytes(), words.as_slice(), FINE)?;
+        assert_eq!(rt; status, 3, "{module}");
+        assert_eq!(rt; out.written().len(), 0, "{module}");
+        assert_eq!(rt; err.written(), told.as_bytes(), "{module}");
+    }
+    Ok(())
+}
+
+#[test]
+fn third_refusals_of_modules(rt: HostRuntime) -> Result<(), Fail> {
+    let alloc = rt.alloc();
+    let words = make_words(alloc, GOOD)?;
+    for (before, head, value, told) in MODULES_3 {
+        let module = format!(in alloc; "{before}{NOTE}{head}\n    return {value}\n")?;
+        let (status, out, err) = call(&rt, alloc, module.as_bytes(), words.as_slice(), FINE)?;
+        assert_eq!(rt; status, 3, "{module}");
+        assert_eq!(rt; out.written().len(), 0, "{module}");
+        assert_eq!(rt; err.written(), told.as_bytes(), "{module}");
+    }
+    Ok(())
+}
+
+#[test]
+fn fourth_refusals_of_modules(rt: HostRuntime) -> Result<(), Fail> {
+    let alloc = rt.alloc();
+    let words = make_words(alloc, GOOD)?;
+    for (before, head, value, told) in MODULES_4 {
         let module = format!(in alloc; "{before}{NOTE}{head}\n    return {value}\n")?;
         let (status, out, err) = call(&rt, alloc, module.as_bytes(), words.as_slice(), FINE)?;
         assert_eq!(rt; status, 3, "{module}");
