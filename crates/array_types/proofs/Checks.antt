@@ -1,6 +1,7 @@
 -- What a program's test says of it.
 use Rattle.std.proofs.Common.{arith, ◌≡◌, ◌<◌, ◌+◌, ◌++◌, ◌&&◌, ℕ, zero, suc, Bool, true, false, nat_lt, List, [], ◌∷◌}
-use Rattle.std.proofs.Common.{length, map, take, slice_get, Option, Some, None, Result, Ok, Err, IfOk, append_assoc, append-nil, ap, ap₂, ◌∙◌}
+use Rattle.std.proofs.Common.{length, map, take, slice_get, Option, Some, None, Result, Ok}
+use Rattle.std.proofs.Common.{Err, IfOk, append_assoc, append-nil, ap, ap₂, ◌∙◌}
 use Rattle.std.proofs.Common.{sym, refl, subst, drop, drop-cons, get_or, add-one}
 use Rattle.std.proofs.lemmas.Bool.Decides.{Decides-ltb}
 use Rattle.std.proofs.lemmas.List.Elements.{All-from_recursion}

@@ -1,5 +1,6 @@
 -- A test of a program, by a height for each instance. It holds only of well-typed programs.
-use Rattle.std.specs.Prelude.{◌≡◌, ℕ, ◌+◌, ◌&&◌, Bool, true, nat_lt, nat_le, List, [], ◌∷◌, map, length, take, slice_get}
+use Rattle.std.specs.Prelude.{◌≡◌, ℕ, ◌+◌, ◌&&◌, Bool, true, nat_lt, nat_le}
+use Rattle.std.specs.Prelude.{List, [], ◌∷◌, map, length, take, slice_get}
 use Rattle.std.specs.Prelude.{unwrap_or}
 use Rattle.std.specs.List.{list_all}
 use Rattle.eager_rules.specs.Sound.{Head, head_of, all_fit, shape_of_body, returns_values}

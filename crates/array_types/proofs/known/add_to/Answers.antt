@@ -1,4 +1,5 @@
-use Rattle.std.proofs.Common.{rules, ◌≡◌, ◌++◌, ◌∷◌, [], List, ℕ, Bool, true, false, Some, None, take, length, ap, ap₂, ◌∙◌, sym, subst}
+use Rattle.std.proofs.Common.{rules, ◌≡◌, ◌++◌, ◌∷◌, [], List, ℕ, Bool, true, false}
+use Rattle.std.proofs.Common.{Some, None, take, length, ap, ap₂, ◌∙◌, sym, subst}
 use Rattle.std.proofs.Math.Seq.{take-append_seam}
 use Rattle.std.specs.Option.{is_some}
 use Rattle.std.specs.HashMap.{get_by}

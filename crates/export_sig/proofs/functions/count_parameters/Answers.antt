@@ -12,5 +12,6 @@ loop-left-preserved c = (
       c.loop-left.invariant.0 c.index-functions-left.is))
       (holds_one_more c.index-functions-left.result (drop c.loop-left.left c.args.functions.now)
       c.as_slice.result.now (length c.as_slice-in-loop-left.result.now) c.loop-left.map c.insert.new.self
-      c.as_slice.ensures (ap length c.as_slice-in-loop-left.ensures) c.loop-left.invariant.1 c.in_ok-insert.ensures.updates),
+      c.as_slice.ensures (ap length c.as_slice-in-loop-left.ensures)
+      c.loop-left.invariant.1 c.in_ok-insert.ensures.updates),
 )
