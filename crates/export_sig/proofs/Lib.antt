@@ -11,3 +11,4 @@ pub mod ExportLaws
 pub mod DirectiveLaws
 pub mod Clauses
 pub mod Numbers
+pub mod KeyLaws

@@ -53,17 +53,17 @@ module _ {K : Type 0} (now : K → List ℕ) (pairs : List (Join × Name)) (i : 
 -- ---- places
 
 found_by : {K : Type 0} (eq : K → Bool) (q : K → Bool) (x k : K) (xs : List K) (t : Bool) → eq x ≡ t →
-    (eq x ≡ true → x ≡ k) → q k ≡ true
+    (eq x ≡ true → q x ≡ q k) → q k ≡ true
     → (list_any eq xs ≡ true → list_any q xs ≡ true) → (t || list_any eq xs) ≡ true → (q x || list_any q xs) ≡ true
-found_by eq q x k xs true e same here again h = ap (λ (t : Bool). t || list_any q xs) (ap q (same e) ∙ here)
+found_by eq q x k xs true e same here again h = ap (λ (t : Bool). t || list_any q xs) (same e ∙ here)
 found_by eq q x k xs false e same here again h = ap (λ (t : Bool). q x || t) (again h) ∙ or_true (q x)
   where
     or_true : (t : Bool) → (t || true) ≡ true
     or_true true = refl
     or_true false = refl
 
-found : {K : Type 0} (eq : K → Bool) (q : K → Bool) (k : K) (xs : List K) → ((x : K) → eq x ≡ true → x ≡ k)
-    → q k ≡ true → list_any eq xs ≡ true → list_any q xs ≡ true
+found : {K : Type 0} (eq : K → Bool) (q : K → Bool) (k : K) (xs : List K)
+    → ((x : K) → eq x ≡ true → q x ≡ q k) → q k ≡ true → list_any eq xs ≡ true → list_any q xs ≡ true
 found eq q k [] same here h = absurd cc
 found eq q k (x ∷ xs) same here h = found_by eq q x k xs (eq x) refl (same x) here (λ g. found eq q k xs same here g) h
 
@@ -72,13 +72,13 @@ or_same true b h = refl
 or_same false true h = absurd (let e : false ≡ true = h refl in cc)
 or_same false false h = refl
 
-or_end : (a b : Bool) → (a || (b || false)) ≡ (a || b)
+pub or_end : (a b : Bool) → (a || (b || false)) ≡ (a || b)
 or_end true b = refl
 or_end false true = refl
 or_end false false = refl
 
-pub inserted : {K : Type 0} (eq : K → Bool) (q : K → Bool) (k : K) (xs : List K) → ((x : K) → eq x ≡ true → x ≡ k)
-    → list_any q (cond (list_any eq xs) xs (xs ++ k ∷ [])) ≡ (list_any q xs || q k)
+pub inserted : {K : Type 0} (eq : K → Bool) (q : K → Bool) (k : K) (xs : List K)
+    → ((x : K) → eq x ≡ true → q x ≡ q k) → list_any q (cond (list_any eq xs) xs (xs ++ k ∷ [])) ≡ (list_any q xs || q k)
 inserted eq q k xs same = by (list_any eq xs) refl
   where
     by : (t : Bool) → list_any eq xs ≡ t → list_any q (cond t xs (xs ++ k ∷ [])) ≡ (list_any q xs || q k)

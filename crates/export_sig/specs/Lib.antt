@@ -9,3 +9,4 @@ pub mod Directives
 pub mod Reading
 pub mod Listing
 pub mod Counts
+pub mod Keys

@@ -1,13 +1,13 @@
 //! The signatures of a module.
 
 ghost use Rattle.std.specs.Prelude.{◌≡◌, [], filter, length, IfOk, IfErr, List};
-ghost use Rattle.std.specs.List.{list_any};
 ghost use Rattle.krn_base.specs.declared.refusal.Refusal.{Refusal};
 ghost use Rattle.krn_base.specs.declared.refusal.Rule.TheVariants as rule;
 ghost use Rattle.krn_base.specs.declared.refusal.Stop.TheVariants as stop;
 ghost use Rattle.export_sig.specs.declared.signature.Signature.{Signature};
 ghost use Rattle.export_sig.specs.Counts.{count_in};
 ghost use Rattle.export_sig.specs.Exports.{AreExports, IsExportRefusal, is_export};
+ghost use Rattle.export_sig.specs.Keys.{HoldsKeys};
 ghost use Rattle.export_sig.specs.Listing as spec;
 ghost use Rattle.export_sig.specs.Listing.{Answers, scan, export_from, export_given};
 ghost use Rattle.export_sig.specs.NoteLists.{IsOnly, IsOnlyRefusal};
@@ -15,10 +15,11 @@ ghost use Rattle.export_sig.specs.Reading.{Reads};
 
 use crate::export_note::signature_of;
 use crate::failure::Failure;
+use crate::found::Found;
 use crate::functions::{ParameterCounts, count_parameters, parameter_count};
 use crate::signature::Signature;
 use crate::words::has_first_word;
-use krn_base::{ParamType, Refusal, Rule, Seq, Stop};
+use krn_base::{Refusal, Rule, Seq, Stop};
 use py_parse::{Module, Note};
 use std::alloc::{AllocError, Global};
 
@@ -27,55 +28,6 @@ const MOST_PARAMS: usize = 16;
 
 /// A module has at most so many exports.
 const MOST_EXPORTS: usize = 64;
-
-fn is_type(a: ParamType, b: ParamType) -> bool
-    ensures { result ≡ spec.is_type a b }
-{
-    match (a, b) {
-        (ParamType::Scalar(k), ParamType::Scalar(l)) => k == l,
-        (ParamType::Flat(k, n), ParamType::Flat(l, m)) => k == l && n == m,
-        (ParamType::Strided(k, n), ParamType::Strided(l, m)) => k == l && n == m,
-        _ => false,
-    }
-}
-
-fn are_types(a: &[ParamType], b: &[ParamType]) -> bool
-    ensures { result ≡ spec.are_types a.now b.now }
-{
-    let mut left = a;
-    let mut right = b;
-    while let [t, ts @ ..] = left {
-        let [u, us @ ..] = right else {
-            return false;
-        };
-        if !is_type(*t, *u) {
-            return false;
-        }
-        left = ts;
-        right = us;
-    }
-    right.is_empty()
-}
-
-fn is_repeated(s: &Signature, t: &Signature) -> bool
-    ensures { result ≡ spec.is_repeated s.now t.now }
-{
-    s.name.text.as_slice() == t.name.text.as_slice()
-        && are_types(s.params.as_slice(), t.params.as_slice())
-}
-
-fn any_repeated(s: &Signature, found: &[Signature]) -> bool
-    ensures { result ≡ list_any (spec.is_repeated s.now) found.now }
-{
-    let mut rest = found;
-    while let [first, more @ ..] = rest {
-        if is_repeated(s, first) {
-            return true;
-        }
-        rest = more;
-    }
-    false
-}
 
 fn has_params(counts: &ParameterCounts<'_>, s: &Signature) -> bool
     ensures { result ≡ spec.is_count (count_in counts.now s.now.name.text) (length s.now.params) }
@@ -88,32 +40,39 @@ fn has_params(counts: &ParameterCounts<'_>, s: &Signature) -> bool
 
 // Whether a signature may stand behind those that were found.
 #[tactic(auto, unfolding(crate::specs::Listing::is_admitted))]
-fn is_admitted(counts: &ParameterCounts<'_>, found: &[Signature], s: &Signature) -> bool
-    ensures { result ≡ spec.is_admitted (count_in counts.now) found.now s.now }
+fn is_admitted(
+    alloc: Global,
+    counts: &ParameterCounts<'_>,
+    found: &Found,
+    s: &Signature,
+) -> Result<bool, AllocError>
+    requires { HoldsKeys found.now }
+    ensures { IfOk result (λ b. b ≡ spec.is_admitted (count_in counts.now) found.now.list.items s.now) }
 {
     if !has_params(counts, s) {
-        return false;
+        return Ok(false);
     }
     if s.params.as_slice().len() > MOST_PARAMS {
-        return false;
+        return Ok(false);
     }
     if found.len() >= MOST_EXPORTS {
-        return false;
+        return Ok(false);
     }
-    !any_repeated(s, found)
+    Ok(!found.has(alloc, s)?)
 }
 
 #[tactic(auto, unfolding(crate::specs::Listing::export_from))]
 fn signature(
     alloc: Global,
     counts: &ParameterCounts<'_>,
-    found: &[Signature],
+    found: &Found,
     note: &Note,
 ) -> Result<Signature, Failure>
-    ensures { Reads (λ s. s) result (export_from (count_in counts.now) found.now note.now) }
+    requires { HoldsKeys found.now }
+    ensures { Reads (λ s. s) result (export_from (count_in counts.now) found.now.list.items note.now) }
 {
     let signature = signature_of(alloc, note)?;
-    if is_admitted(counts, found, &signature) {
+    if is_admitted(alloc, counts, found, &signature)? {
         Ok(signature)
     } else {
         Err(Failure::Malformed)
@@ -134,15 +93,15 @@ fn signatures(
 ) -> Result<Seq<Signature>, Stop>
     ensures { Answers rule.Export (scan (export_given (count_in counts.now)) [] (filter is_export notes.now)) result }
 {
-    let mut found = Vec::new(alloc);
+    let mut found = Found::new(alloc);
     let mut rest = notes;
     while let [note, more @ ..] = rest {
         rest = more;
         if !is_export(note) {
             continue;
         }
-        match signature(alloc, counts, found.as_slice(), note) {
-            Ok(signature) => found.push(signature).map_err(AllocError::from)?,
+        match signature(alloc, counts, &found, note) {
+            Ok(signature) => found.add(alloc, signature)?,
             Err(Failure::Memory) => return Err(Stop::Memory),
             Err(Failure::Malformed) => {
                 return Err(Stop::Refused(Refusal {
@@ -152,7 +111,7 @@ fn signatures(
             }
         }
     }
-    Ok(Seq::from_vec(found))
+    Ok(found.into_seq())
 }
 
 /// The signatures of a module's export notes, in the order of the notes.
@@ -160,9 +119,8 @@ fn signatures(
 /// A note is refused by `Rule::Export` at its `#` where it is malformed, names no function of the module, has
 /// another number of types than that function has parameters (the first function of the name counts), has more than
 /// 16, repeats name and types of a signature before it, or is the 65th; the first such note in the text gives the
-/// refusal. Nothing is asked of the module. The functions are gone through once. Each note is read once, its name is
-/// looked up in an index, and it is compared with the signatures so far, of which there are 64 at most; no note behind
-/// the 65th is read.
+/// refusal. Nothing is asked of the module. The functions are gone through once. Each note is read once, and its name and its
+/// signature are looked up in indexes; no note behind the 65th is read.
 pub fn exports(alloc: Global, module: &Module) -> Result<Seq<Signature>, Stop>
     ensures signatures { IfOk result (λ signatures. AreExports «module».now signatures) }
     ensures refused { IfErr result (IsExportRefusal «module».now) }

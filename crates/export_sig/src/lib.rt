@@ -10,6 +10,7 @@ mod directive_note;
 mod export_list;
 mod export_note;
 mod failure;
+mod found;
 mod functions;
 mod loops;
 mod names;

@@ -12,6 +12,7 @@ loop-place-preserved c = λ at.
     let place : Loc = get_or c.args.list.now c.loop-place.place-index zero in
     ap (λ (keys : Places). is_among keys at) c.in_ok-insert.ensures.keys
     ∙ inserted _ (λ (p : ℕ × ℕ). nat_eq at.line p.0 && nat_eq at.col p.1)
-    (place.line, place.col) c.loop-place.set.keys (λ x. same_pair (place.line, place.col) x)
+    (place.line, place.col) c.loop-place.set.keys
+    (λ x e. ap (λ (p : ℕ × ℕ). nat_eq at.line p.0 && nat_eq at.col p.1) (same_pair (place.line, place.col) x e))
     ∙ ap (λ (t : Bool). t || is_place at place) (c.loop-place.invariant at)
     ∙ sym (list_any_more (is_place at) c.args.list.now c.loop-place.place-index zero c.loop-place-test.true)
