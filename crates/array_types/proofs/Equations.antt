@@ -12,7 +12,8 @@ use Rattle.module_terms.specs.declared.term.Term.{Term}
 use Rattle.module_terms.specs.declared.term.Term.TheVariants as v
 use Rattle.module_terms.specs.declared.term.Line.{Line}
 use Rattle.py_parse.specs.declared.tree.Name.{Name}
-use Rattle.array_types.specs.Forms.{Calls, Made, part_step, term_step, term, links, into, line, in_order}
+use Rattle.array_types.specs.Forms.{Calls, Made, Follow, part_step, step_step, term_step, term, links, into, line}
+use Rattle.array_types.specs.Forms.{in_order}
 use Rattle.array_types.specs.Modules.{New, new_at, called, called_function, called_routine, met_by, instance_for}
 use Rattle.array_types.specs.Walk.{Nothing, Outcome, Walk, and_then, test, find}
 use Rattle.array_types.specs.declared.state.State.{State}
@@ -27,7 +28,7 @@ pub term_logic : (calls : Calls) (both : Bool) (x : Term) (rest : List (Loc × T
 term_logic calls both x rest target s =
     ap (λ y. term calls y target s) (sym (v.rolls-Logic both x rest))
     ∙ ap (λ (made : Made). made target s)
-    (fold-roll-Term (Walk CoreSub) Made part_step (term_step calls) (f.Term-F.Logic both x rest))
+    (fold-roll-Term (Walk CoreSub) Follow Made part_step step_step (term_step calls) (f.Term-F.Logic both x rest))
 
 pub logic_from : (calls : Calls) (both : Bool) (x : Term) (rest : List (Loc × Term)) (target : Target) (s : State)
     (a : Value) (t : State) →

@@ -30,14 +30,15 @@ use Rattle.module_terms.specs.declared.term.Loop.{Loop}
 use Rattle.module_terms.specs.declared.term.Operation.{Operation}
 use Rattle.module_terms.specs.declared.term.Operation.TheVariants as o
 use Rattle.module_terms.specs.declared.term.Part.{Part}
+use Rattle.module_terms.specs.declared.term.Step.{Step}
 use Rattle.module_terms.specs.declared.term.Term.{Term}
 use Rattle.module_terms.specs.declared.term.Part.TheOpen as t
-use Rattle.module_terms.specs.declared.term.Part.TheFolds.{fold-Term, fold-Part}
+use Rattle.module_terms.specs.declared.term.Part.TheFolds.{fold-Term, fold-Part, fold-Step}
 use Rattle.py_parse.specs.declared.tree.Name.{Name as Named}
 use Rattle.array_types.specs.Rows.{axis_of, row_of, binary_row, truth_row, number_row, pick_row, is_element, indices}
 use Rattle.array_types.specs.Rows.{is_number_type}
 use Rattle.array_types.specs.Walk.{Nothing, Outcome, Walk, and_then, ◌>>=◌, ◌>>◌, pure, refuse, need, test, find}
-use Rattle.array_types.specs.Walk.{emit, bind, read}
+use Rattle.array_types.specs.Walk.{emit, bind, read, nowhere}
 use Rattle.array_types.specs.declared.state.Range.{Range}
 use Rattle.array_types.specs.declared.state.State.{State}
 use Rattle.array_types.specs.declared.state.Target.{Target}
@@ -74,10 +75,6 @@ number_of _ = 0
 abbrev pub array_of : List Value → ℕ
 array_of [] = 0
 array_of (v ∷ values) = number_of v.oper
-
--- the place of a statement that can't fault
-abbrev pub nowhere : Loc
-nowhere = record { line = 0; col = 0 }
 
 abbrev pub zero_oper : Oper
 zero_oper = oper.Int (pos 0)
@@ -234,24 +231,36 @@ call_value g target at vs = need (only_type g.1) at >>= λ r. made target r (λ 
 
 -- ---- expressions
 
-abbrev pub part_step : t.Part-F (Walk CoreSub) Made → Walk CoreSub
+abbrev pub part_step : t.Part-F (Walk CoreSub) Follow Made → Walk CoreSub
 part_step (t.Part-F.At x) = x Own >>= λ v. pure (sub.At v.oper)
 part_step (t.Part-F.Cut start stop step) =
     part_of start >>= λ a. part_of stop >>= λ b. part_of step >>= λ c. pure (sub.Cut a b c)
 
-abbrev pub term_step : Calls → t.Term-F (Walk CoreSub) Made → Made
+-- what a step makes of the value before it
+abbrev pub Follow : Type 0
+Follow = Value → Made
+
+abbrev pub step_step : t.Step-F (Walk CoreSub) Follow Made → Follow
+step_step (t.Step-F.Operate op at args) a target = values_from (a ∷ []) args >>= λ vs. applied op at vs target
+step_step (t.Step-F.Pick at parts) a target = subs_from [] parts >>= λ subs. picked target a subs at
+
+-- steps from the left, each value with a name of its own
+abbrev pub followed : List Follow → Value → Walk Value
+followed [] a = pure a
+followed (step ∷ rest) a = step a Own >>= λ v. followed rest v
+
+abbrev pub term_step : Calls → t.Term-F (Walk CoreSub) Follow Made → Made
 term_step calls (t.Term-F.Name name) target = read name >>= into target
 term_step calls (t.Term-F.Int z) target = into target (value (oper.Int z) int)
 term_step calls (t.Term-F.Truth b) target = into target (value (oper.Truth b) (Boolean, 0))
 term_step calls (t.Term-F.Apply op at args) target = values_from [] args >>= λ vs. applied op at vs target
 term_step calls (t.Term-F.Logic both x rest) target = x Own >>= λ a. chained both rest a >>= into target
-term_step calls (t.Term-F.Pick at x parts) target = x Own >>= λ a. subs_from [] parts >>=
-    λ subs. picked target a subs at
+term_step calls (t.Term-F.Steps x before last) target = x Own >>= λ a. followed before a >>= λ v. last v target
 term_step calls (t.Term-F.Call name args) target = values_from [] args >>= λ vs. calls name (types_in vs) >>= λ g.
     call_value g target name.loc vs
 
 abbrev pub term : Calls → Term → Made
-term calls = fold-Term (Walk CoreSub) Made part_step (term_step calls)
+term calls = fold-Term (Walk CoreSub) Follow Made part_step step_step (term_step calls)
 
 -- the links of an `and` or an `or`
 abbrev pub link_of : Calls → Loc × Term → Loc × Made
@@ -261,14 +270,23 @@ abbrev pub links : Calls → Bool → List (Loc × Term) → Value → Walk Valu
 links calls both rest a = chained both (map (link_of calls) rest) a
 
 abbrev pub part : Calls → Part → Walk CoreSub
-part calls = fold-Part (Walk CoreSub) Made part_step (term_step calls)
+part calls = fold-Part (Walk CoreSub) Follow Made part_step step_step (term_step calls)
+
+abbrev pub step : Calls → Step → Follow
+step calls = fold-Step (Walk CoreSub) Follow Made part_step step_step (term_step calls)
+
+abbrev pub steps : Calls → List Step → Value → Walk Value
+steps calls list a = followed (map (step calls) list) a
 
 abbrev pub bound : Calls → Option Term → Walk (Option Oper)
 bound calls None = pure None
 bound calls (Some x) = term calls x Own >>= λ v. pure (Some v.oper)
 
+abbrev pub values_behind : Calls → List Value → List Term → Walk (List Value)
+values_behind calls found args = values_from found (map (term calls) args)
+
 abbrev pub values : Calls → List Term → Walk (List Value)
-values calls args = values_from [] (map (term calls) args)
+values calls args = values_behind calls [] args
 
 abbrev pub subscripts : Calls → List Part → Walk (List CoreSub)
 subscripts calls parts = subs_from [] (map (part calls) parts)
@@ -324,43 +342,32 @@ abbrev pub int_name : Option Ty → Loc → Walk Nothing
 int_name None at = refuse Types at
 int_name (Some t) at = test (same_type t int) at
 
-abbrev pub expected_by : Option ℕ → List ℕ → Loc → Walk Nothing
-expected_by None text at = λ s. Ok (tt, record s { awaited = s.awaited ++ (text, at) ∷ [] })
-expected_by (Some n) text at = λ s. int_name (slice_get s.types n) at s
+abbrev pub int_if_typed : Option ℕ → Loc → Walk Nothing
+int_if_typed None at = pure tt
+int_if_typed (Some n) at = λ s. int_name (slice_get s.types n) at s
 
-abbrev pub expected_one : Named → Loc → Walk Nothing
-expected_one name at = λ s. expected_by (find name.text s.known) name.text at s
+-- the name waits for its number: its place among those that wait
+abbrev pub wait : List ℕ → Loc → Walk ℕ
+wait text at = λ s.
+    Ok (length s.places, record s { awaited = s.awaited ++ (text, length s.places) ∷ []; places = s.places ++ at ∷ [] })
 
-abbrev pub expected : Loc → List (Join × Named) → Walk Nothing
-expected at [] = pure tt
-expected at (r ∷ rest) = expected_one r.1 at >> expected at rest
+abbrev pub expected_one : Named → Loc → Walk ℕ
+expected_one name at = (λ s. int_if_typed (find name.text s.known) at s) >> wait name.text at
 
-abbrev pub reduction : Option ℕ → Join → Loc → Walk (Join × ℕ)
-reduction None join at = refuse Types at
-reduction (Some n) join at = (λ s. int_name (slice_get s.types n) at s) >> pure (join, n)
+abbrev pub expected : Loc → List (Join × ℕ) → List (Join × Named) → Walk (List (Join × ℕ))
+expected at found [] = pure found
+expected at found (r ∷ rest) = expected_one r.1 at >>= λ i. expected at (found ++ (r.0, i) ∷ []) rest
 
-abbrev pub reduction_of : Join → Named → Loc → Walk (Join × ℕ)
-reduction_of join name at = λ s. reduction (find name.text s.known) join at s
-
-abbrev pub reductions_from : Loc → List (Join × ℕ) → List (Join × Named) → Walk (List (Join × ℕ))
-reductions_from at found [] = pure found
-reductions_from at found (r ∷ rest) =
-    reduction_of r.0 r.1 at >>= λ p. reductions_from at (found ++ p ∷ []) rest
-
-abbrev pub before_loop : Option (List (Join × Named)) → Loc → Walk Nothing
-before_loop None at = pure tt
-before_loop (Some rs) at = expected at rs
-
-abbrev pub after_loop : Option (List (Join × Named)) → Loc → Walk (Option (List (Join × ℕ)))
-after_loop None at = pure None
-after_loop (Some rs) at = reductions_from at [] rs >>= λ found. pure (Some found)
+-- the reductions of a loop, each by the place of its name among those that wait
+abbrev pub before_loop : Option (List (Join × Named)) → Loc → Walk (Option (List (Join × ℕ)))
+before_loop None at = pure None
+before_loop (Some rs) at = expected at [] rs >>= λ found. pure (Some found)
 
 abbrev pub loop : Calls → Loop → Walk Nothing → Walk Nothing
 loop calls head body =
-    values calls head.args >>= λ vs. need (range_of vs) head.at >>= λ range. before_loop head.omp head.at >>
-    (bind (Into head.var.text head.var.loc head.at) int >>= λ n. block_of body >>=
-    λ part. after_loop head.omp head.at >>= λ omp.
-    emit (core.For n range.lo range.hi range.step head.at omp part))
+    values calls head.args >>= λ vs. need (range_of vs) head.at >>= λ range. before_loop head.omp head.at >>= λ omp.
+    bind (Into head.var.text head.var.loc head.at) int >>= λ n. block_of body >>= λ part.
+    emit (core.For n range.lo range.hi range.step head.at omp part)
 
 abbrev pub in_order : List (Walk Nothing) → Walk Nothing
 in_order [] = pure tt

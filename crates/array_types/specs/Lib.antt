@@ -6,3 +6,4 @@ pub mod Forms
 pub mod Shapes
 pub mod Modules
 pub mod Weights
+pub mod Settle

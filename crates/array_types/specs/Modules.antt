@@ -18,6 +18,7 @@ use Rattle.eager_rules.specs.declared.program.Program.{Program}
 use Rattle.module_terms.specs.declared.term.Routine.{Routine}
 use Rattle.py_parse.specs.declared.tree.Name.{Name as Named}
 use Rattle.array_types.specs.Forms.{Given, Calls, block}
+use Rattle.array_types.specs.Settle.{numbers_from, settled_block}
 use Rattle.array_types.specs.Walk.{Nothing, Outcome, Walk, and_then, ◌>>=◌, ◌>>◌, pure, refuse, test, find}
 use Rattle.array_types.specs.declared.state.Key.{Key}
 use Rattle.array_types.specs.declared.state.Key.TheVariants.{Kernel, Called}
@@ -70,35 +71,37 @@ begun key routine params s = record {
   types = map type_of_param params;
   known = numbered routine.params;
   awaited = [];
+  places = [];
   out = [];
   rets = None;
 }
 
-abbrev pub instance_of : Routine → List ParamType → State → Instance
-instance_of routine params t = record {
+abbrev pub instance_of : Routine → List ParamType → List ℕ → State → Instance
+instance_of routine params numbers t = record {
   name = routine.name.text;
   weight = routine.weight;
   params = zip (texts routine.params) params;
   rets = unwrap_or t.rets [];
   names = t.types;
-  body = t.out;
+  body = settled_block numbers t.out;
 }
 
-abbrev pub finished_by : Bool → ℕ → Routine → List ParamType → State → State → Outcome Given
-finished_by true n routine params s t =
+abbrev pub finished_by : Bool → ℕ → Routine → List ParamType → List ℕ → State → State → Outcome Given
+finished_by true n routine params numbers s t =
     Ok (
       (n, unwrap_or t.rets []),
       record s {
         keys = t.keys;
-        instances = slice_set t.instances n (Some (instance_of routine params t));
+        instances = slice_set t.instances n (Some (instance_of routine params numbers t));
       },
     )
-finished_by false n routine params s t = Err (record { rule = Types; loc = routine.name.loc })
+finished_by false n routine params numbers s t = Err (record { rule = Types; loc = routine.name.loc })
 
--- where a path misses a value the function is refused, after its body
+-- Behind its body a function is refused where a reduction's name is bound nowhere, and then where a path misses a
+-- value.
 abbrev pub finished : ℕ → Routine → List ParamType → State → State → Outcome Given
-finished n routine params s t =
-    finished_by (returns_values (unwrap_or t.rets []) (shape_of_body t.out)) n routine params s t
+finished n routine params s t = and_then (numbers_from [] t.awaited t) (λ numbers u.
+    finished_by (returns_values (unwrap_or u.rets []) (shape_of_body u.out)) n routine params numbers s u)
 
 abbrev pub entered : Key → Routine → List ParamType → Walk Nothing → Walk Given
 entered key routine params body = λ s. and_then (body (begun key routine params s)) (λ u t. finished
@@ -170,7 +173,16 @@ kernels_from found routines names (x ∷ xs) =
     kernel routines names x >>= λ n. kernels_from (found ++ n ∷ []) routines names xs
 
 abbrev pub start : State
-start = record { keys = []; instances = []; types = []; known = []; awaited = []; out = []; rets = None }
+start = record {
+  keys = [];
+  instances = [];
+  types = [];
+  known = [];
+  awaited = [];
+  places = [];
+  out = [];
+  rets = None;
+}
 
 -- the instances whose bodies were walked, which are all
 abbrev pub complete : List (Option Instance) → List Instance

@@ -1,5 +1,6 @@
 -- A walk goes on with what has been made so far, or refuses the module.
-use Rattle.std.specs.Prelude.{◌≡◌, ℕ, ◌+◌, Bool, true, false, List, [], ◌∷◌, ◌++◌, length, slice_get, Option, Some}
+use Rattle.std.specs.Prelude.{◌≡◌, ℕ, ◌+◌, Bool, true, false, List, [], ◌∷◌, ◌++◌, length, slice_get}
+use Rattle.std.specs.Prelude.{slice_index_or, Option, Some}
 use Rattle.std.specs.Prelude.{None, Result, Ok, Err}
 use Rattle.krn_base.specs.declared.kind.Kind.TheVariants.{Int64}
 use Rattle.krn_base.specs.declared.place.Loc.{Loc}
@@ -71,10 +72,17 @@ emit core = λ s. Ok (tt, record s { out = s.out ++ core ∷ [] })
 abbrev pub add : Ty → Walk ℕ
 add t = λ s. Ok (length s.types, record s { types = s.types ++ t ∷ [] })
 
+-- the place of the loop of a name that waits
+abbrev pub nowhere : Loc
+nowhere = record { line = 0; col = 0 }
+
+abbrev pub place_of : ℕ → List Loc → Loc
+place_of i places = slice_index_or places i nowhere
+
 -- a new name of the text, which loops may wait for as a reduction
-abbrev pub awaited : Option Loc → Ty → Walk Nothing
+abbrev pub awaited : Option ℕ → Ty → Walk Nothing
 awaited None t = pure tt
-awaited (Some at) t = test (same_type t (Int64, 0)) at
+awaited (Some i) t = λ s. test (same_type t (Int64, 0)) (place_of i s.places) s
 
 abbrev pub know : List ℕ → ℕ → Walk Nothing
 know text n = λ s. Ok (tt, record s { known = s.known ++ (text, n) ∷ [] })

@@ -11,7 +11,7 @@ use crate::walk::{bind, emit, need, number_for, read, test};
 use crate::{cores, instances, rows, steps};
 use eager_rules::{Core, CoreSub, Oper};
 use krn_base::{Kind, Loc, ParamType, Refusal, Rule, Seq, Stop};
-use module_terms::{Line, Loop, Part, Routine, Term};
+use module_terms::{Line, Loop, Part, Routine, Step, Term};
 use py_parse::Name;
 use std::alloc::Global;
 
@@ -52,7 +52,7 @@ fn term(
             state,
         ),
         Term::Apply(op, at, args) => {
-            let values = terms(args.as_slice(), depth, routines, names, alloc, state)?;
+            let values = terms(Seq::new(alloc), args.as_slice(), depth, routines, names, alloc, state)?;
             steps::applied(*op, *at, values, target, alloc, state)
         }
         Term::Logic(both, first, rest) => {
@@ -77,9 +77,9 @@ fn term(
             )?;
             steps::into(target, v, alloc, state)
         }
-        Term::Pick(at, array, parts) => {
+        Term::Steps(first, before, last) => {
             let a = term(
-                array.get(),
+                first.get(),
                 Target::Own,
                 depth,
                 routines,
@@ -87,11 +87,11 @@ fn term(
                 alloc,
                 state,
             )?;
-            let subs = subscripts(parts.as_slice(), depth, routines, names, alloc, state)?;
-            steps::picked(target, a, subs.as_slice(), *at, alloc, state)
+            let v = followed(before.as_slice(), a, depth, routines, names, alloc, state)?;
+            follow(last, v, target, depth, routines, names, alloc, state)
         }
         Term::Call(name, args) => {
-            let values = terms(args.as_slice(), depth, routines, names, alloc, state)?;
+            let values = terms(Seq::new(alloc), args.as_slice(), depth, routines, names, alloc, state)?;
             let types = cores::types_of(alloc, values.as_slice())?;
             let given = call(depth, name, types, routines, names, alloc, state)?;
             steps::call_value(given, target, name.loc, values.as_slice(), alloc, state)
@@ -99,9 +99,67 @@ fn term(
     }
 }
 
-/// Operands from left to right.
+/// Steps from the left, each value with a name of its own.
+#[cycle(body)]
+fn followed(
+    steps: &[Step],
+    first: Value,
+    depth: u32,
+    routines: &[Routine],
+    names: &Known,
+    alloc: Global,
+    state: &mut State,
+) -> Result<Value, Stop>
+    ensures { Walks (spec.steps (calls_at routines.now names.now depth) steps.now first state.old) result state.new }
+{
+    let mut a = first;
+    for step in steps {
+        a = follow(
+            step,
+            a,
+            Target::Own,
+            depth,
+            routines,
+            names,
+            alloc,
+            state,
+        )?;
+    }
+    Ok(a)
+}
+
+/// One step, for a target.
+#[cycle(body)]
+fn follow(
+    step: &Step,
+    a: Value,
+    target: Target,
+    depth: u32,
+    routines: &[Routine],
+    names: &Known,
+    alloc: Global,
+    state: &mut State,
+) -> Result<Value, Stop>
+    ensures { Walks (spec.step (calls_at routines.now names.now depth) step.now a target state.old) result state.new }
+{
+    match step {
+        Step::Operate(op, at, args) => {
+            let mut first = Seq::new(alloc);
+            first.push(a)?;
+            let values = terms(first, args.as_slice(), depth, routines, names, alloc, state)?;
+            steps::applied(*op, *at, values, target, alloc, state)
+        }
+        Step::Pick(at, parts) => {
+            let subs = subscripts(parts.as_slice(), depth, routines, names, alloc, state)?;
+            steps::picked(target, a, subs.as_slice(), *at, alloc, state)
+        }
+    }
+}
+
+/// Operands from left to right, behind those before them.
 #[cycle(body)]
 fn terms(
+    before: Seq<Value>,
     args: &[Term],
     depth: u32,
     routines: &[Routine],
@@ -109,9 +167,10 @@ fn terms(
     alloc: Global,
     state: &mut State,
 ) -> Result<Seq<Value>, Stop>
-    ensures { Walks (spec.values (calls_at routines.now names.now depth) args.now state.old) result state.new }
+    ensures { Walks (spec.values_behind (calls_at routines.now names.now depth) before args.now state.old) result
+        state.new }
 {
-    let mut found = Seq::new(alloc);
+    let mut found = before;
     for x in args {
         let v = term(x, Target::Own, depth, routines, names, alloc, state)?;
         found.push(v)?;
@@ -252,11 +311,11 @@ fn line(
 {
     match x {
         Line::Return(at, args) => {
-            let values = terms(args.as_slice(), depth, routines, names, alloc, state)?;
+            let values = terms(Seq::new(alloc), args.as_slice(), depth, routines, names, alloc, state)?;
             steps::returned(values.as_slice(), *at, alloc, state)
         }
         Line::Alone(name, args) => {
-            let values = terms(args.as_slice(), depth, routines, names, alloc, state)?;
+            let values = terms(Seq::new(alloc), args.as_slice(), depth, routines, names, alloc, state)?;
             let types = cores::types_of(alloc, values.as_slice())?;
             let given = call(depth, name, types, routines, names, alloc, state)?;
             let args = cores::opers_of(alloc, values.as_slice())?;
@@ -333,13 +392,12 @@ fn over_range(
     ensures { Walks (spec.loop (calls_at routines.now names.now depth) head.now
         (spec.block (calls_at routines.now names.now depth) body.now) state.old) result state.new }
 {
-    let values = terms(head.args.as_slice(), depth, routines, names, alloc, state)?;
+    let values = terms(Seq::new(alloc), head.args.as_slice(), depth, routines, names, alloc, state)?;
     let range = need(steps::range_of(values.as_slice()), head.at, state)?;
-    steps::before_loop(&head.omp, head.at, state)?;
+    let omp = steps::before_loop(&head.omp, head.at, alloc, state)?;
     let target = Target::Into(head.var.text.try_copy()?, head.var.loc, head.at);
     let var = bind(target, (Kind::Int64, 0), state)?;
     let body = inner(body, depth, routines, names, alloc, state)?;
-    let omp = steps::after_loop(&head.omp, head.at, alloc, state)?;
     emit(
         Core::For {
             var,

@@ -8,6 +8,7 @@ ghost use Rattle.array_types.specs.Walk.{Walks};
 
 use crate::known::Known;
 use crate::rows::same_types;
+use crate::settle;
 use crate::shape::ends_well;
 use crate::state::{Key, State, Ty};
 use eager_rules::Instance;
@@ -148,7 +149,8 @@ pub fn begin(
         instances,
         types,
         known,
-        awaited: Seq::new(alloc),
+        awaited: Known::new(alloc),
+        places: Seq::new(alloc),
         out: Seq::new(alloc),
         rets: None,
     })
@@ -191,12 +193,14 @@ pub fn finish(
 ) -> Result<(u32, Seq<Ty>), Stop>
     ensures { Walks (spec.finished n routine.now params state.old within) result state.new }
 {
+    let numbers = settle::numbers(alloc, &within)?;
     let State {
         keys,
         mut instances,
         types,
         known: _,
         awaited: _,
+        places: _,
         out,
         rets,
     } = within;
@@ -217,7 +221,7 @@ pub fn finish(
         params: params_of(alloc, routine.params.as_slice(), params.as_slice())?,
         rets,
         names: types,
-        body: out,
+        body: settle::settled_block(alloc, out, numbers.as_slice())?,
     };
     put(&mut instances, n, f);
     state.keys = keys;

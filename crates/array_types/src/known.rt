@@ -73,6 +73,13 @@ impl Known {
         self.index.get(text).copied()
     }
 
+    /// The texts with their numbers, in the order in which they were added.
+    pub fn entries(&self) -> &[(Text, u32)]
+        ensures { result.now ≡ self.now }
+    {
+        self.list.as_slice()
+    }
+
     /// Adds a number for a text.
     pub fn add(&mut self, text: Text, n: u32) -> Result<(), AllocError>
         ensures { OnOk result (self.new ≡ self.old ++ (text, n) ∷ []) }

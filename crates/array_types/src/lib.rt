@@ -10,6 +10,7 @@ mod instances;
 mod known;
 mod modules;
 mod rows;
+mod settle;
 mod shape;
 mod state;
 mod steps;

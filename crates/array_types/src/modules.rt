@@ -122,7 +122,7 @@ fn complete(alloc: Global, instances: Seq<Option<Instance>>) -> Result<Seq<Insta
 ///
 /// Cost: an instance takes one walk through its function's body, which is linear in the body's terms, and its core is
 /// linear in them too. Names and functions are found by an index. A call compares its types with those of the
-/// instances met so far, and a new name its text with the reductions that still wait for a type. The finished program
+/// instances met so far, and what waits for a type is looked up. The finished program
 /// is tested once, and its calls once for each level of calls.
 pub fn typed_terms(
     alloc: Global,
@@ -138,7 +138,8 @@ pub fn typed_terms(
         instances: Seq::new(alloc),
         types: Seq::new(alloc),
         known: Known::new(alloc),
-        awaited: Seq::new(alloc),
+        awaited: Known::new(alloc),
+        places: Seq::new(alloc),
         out: Seq::new(alloc),
         rets: None,
     };
@@ -149,6 +150,7 @@ pub fn typed_terms(
         types: _,
         known: _,
         awaited: _,
+        places: _,
         out: _,
         rets: _,
     } = state;

@@ -41,8 +41,11 @@ pub struct State {
     pub types: Seq<Ty>,
     /// The numbers of the names that have a text.
     pub known: Known,
-    /// Names of reductions that have no type yet, with the place of their loop's `range`.
-    pub awaited: Seq<(Text, Loc)>,
+    /// Names of reductions, each with its place in this list: they wait for their numbers. One without a type must be
+    /// a scalar int as soon as it has one.
+    pub awaited: Known,
+    /// The places of the `range` of their loops, in the same order.
+    pub places: Seq<Loc>,
     /// The statements of the block so far.
     pub out: Seq<Core>,
     /// The types of the values of the first `return`.

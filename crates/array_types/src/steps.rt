@@ -7,7 +7,7 @@ ghost use Rattle.array_types.specs.Rows as row_spec;
 ghost use Rattle.array_types.specs.Walk.{Walks, need};
 
 use crate::state::{Range, State, Target, Ty, Value};
-use crate::walk::{add_awaited, bind, emit, name_of, need, test};
+use crate::walk::{NOWHERE, bind, emit, name_of, need, test, wait};
 use crate::{cores, rows};
 use eager_rules::{Core, CoreSub, Oper};
 use krn_base::{BinOp, Join, Kind, Loc, NoMemory, Seq, Stop};
@@ -17,7 +17,6 @@ use std::alloc::Global;
 use std::mem;
 
 /// The place of a statement that can't fault.
-const NOWHERE: Loc = Loc { line: 0, col: 0 };
 
 /// The type of a scalar int.
 const INT: Ty = (Kind::Int64, 0);
@@ -374,77 +373,44 @@ fn int_name(n: u32, at: Loc, state: &State) -> Result<(), Stop>
     }
 }
 
-/// One reduction's name before its loop: tested where it has a type, else waited for.
-fn expected_one(name: &Name, at: Loc, state: &mut State) -> Result<(), Stop>
+/// One reduction's name before its loop: tested where it has a type. It waits for its number.
+fn expected_one(name: &Name, at: Loc, state: &mut State) -> Result<u32, Stop>
     ensures { Walks (spec.expected_one name.now at state.old) result state.new }
 {
-    match name_of(name, state) {
-        None => add_awaited(name, at, state),
-        Some(n) => int_name(n, at, state),
+    if let Some(n) = name_of(name, state) {
+        int_name(n, at, state)?;
     }
+    wait(name, at, state)
 }
 
-fn expected(pairs: &[(Join, Name)], at: Loc, state: &mut State) -> Result<(), Stop>
-    ensures { Walks (spec.expected at pairs.now state.old) result state.new }
-{
-    for pair in pairs {
-        expected_one(&pair.1, at, state)?;
-    }
-    Ok(())
-}
-
-/// The reductions of a loop's directive before the loop.
-pub fn before_loop(omp: &Option<Seq<(Join, Name)>>, at: Loc, state: &mut State) -> Result<(), Stop>
-    ensures { Walks (spec.before_loop omp.now at state.old) result state.new }
-{
-    match omp {
-        None => Ok(()),
-        Some(pairs) => expected(pairs.as_slice(), at, state),
-    }
-}
-
-fn reduction(join: Join, name: &Name, at: Loc, state: &State) -> Result<(Join, u32), Stop>
-    ensures { Walks (spec.reduction_of join name.now at state.now) result state.now }
-{
-    match name_of(name, state) {
-        None => {
-            test(false, at, state)?;
-            Ok((join, 0))
-        }
-        Some(n) => {
-            int_name(n, at, state)?;
-            Ok((join, n))
-        }
-    }
-}
-
-fn reductions(
+fn expected(
     pairs: &[(Join, Name)],
     at: Loc,
     alloc: Global,
-    state: &State,
+    state: &mut State,
 ) -> Result<Seq<(Join, u32)>, Stop>
-    ensures { Walks (spec.reductions_from at [] pairs.now state.now) result state.now }
+    ensures { Walks (spec.expected at [] pairs.now state.old) result state.new }
 {
     let mut found = Seq::new(alloc);
     for pair in pairs {
-        found.push(reduction(pair.0, &pair.1, at, state)?)?;
+        let i = expected_one(&pair.1, at, state)?;
+        found.push((pair.0, i))?;
     }
     Ok(found)
 }
 
-/// The reductions of a loop's directive by their numbers, after the loop's body.
-pub fn after_loop(
+/// The reductions of a loop's directive before the loop, each by the place of its name among those that wait.
+pub fn before_loop(
     omp: &Option<Seq<(Join, Name)>>,
     at: Loc,
     alloc: Global,
-    state: &State,
+    state: &mut State,
 ) -> Result<Option<Seq<(Join, u32)>>, Stop>
-    ensures { Walks (spec.after_loop omp.now at state.now) result state.now }
+    ensures { Walks (spec.before_loop omp.now at state.old) result state.new }
 {
     match omp {
         None => Ok(None),
-        Some(pairs) => Ok(Some(reductions(pairs.as_slice(), at, alloc, state)?)),
+        Some(pairs) => Ok(Some(expected(pairs.as_slice(), at, alloc, state)?)),
     }
 }
 

@@ -282,7 +282,7 @@ static EXPRESSIONS_3: [(&str, &str); 38] = [
 ];
 
 // Bodies of the function, likewise.
-static BODIES: [(&str, &str); 39] = [
+static BODIES: [(&str, &str); 40] = [
     (
         " x = 1\n x = i",
         "[(I, 0)] [Word 7, Move, [Int(1)], @4:4, Word 7, Move, [(0)], @5:4]",
@@ -402,6 +402,11 @@ static BODIES: [(&str, &str); 39] = [
     (
         " #omp parallel for reduction(*:k)\n for k in range(3):\n  pass",
         "[(I, 0)] [For var: 7, lo: Int(0), hi: Int(3), step: Int(1), @5:11, omp: Some([(Prod, 7)]), body: []]",
+    ),
+    (
+        " #omp parallel for reduction(+:s)\n for k in range(3):\n  pass\n s = 1",
+        "[(I, 0), (I, 0)] [For var: 7, lo: Int(0), hi: Int(3), step: Int(1), @5:11, omp: Some([(Sum, 8)]), body: \
+         [], Word 8, Move, [Int(1)], @7:4]",
     ),
     (
         " #omp parallel for\n for k in range(3):\n  pass",
@@ -534,7 +539,7 @@ static NO_ROW: [(&str, &str); 98] = [
 ];
 
 // Bodies of the function, and where they are refused.
-static REFUSED: [(&str, &str); 70] = [
+static REFUSED: [(&str, &str); 71] = [
     (" b += 1", "Retype 4:2"),
     (" x = True\n x += i", "Retype 5:2"),
     (" x = 1\n x = b", "Retype 5:2"),
@@ -621,8 +626,12 @@ static REFUSED: [(&str, &str); 70] = [
         "Type 5:11",
     ),
     (
-        " #omp parallel for reduction(+:s)\n for k in range(3):\n  pass\n s = 1",
+        " #omp parallel for reduction(+:s)\n for k in range(3):\n  pass\n s = True",
         "Type 5:11",
+    ),
+    (
+        " #omp parallel for reduction(+:z)\n for k in range(3):\n  pass\n x = -b",
+        "Type 7:6",
     ),
     (" x = -b\n y = 1\n y = b", "Type 4:6"),
     (" y = 1\n y = b\n x = -b", "Retype 5:2"),
@@ -1035,5 +1044,34 @@ fn chains_of_calls_are_walked(rt: HostRuntime) -> Result<(), Fail> {
     let text = "#pythran export f(int)\ndef f(a):\n return g(a)\ndef g(a):\n return f(a)\n";
     let text = program_text(alloc, text.as_bytes())?;
     assert_eq!(rt; text.as_str(), "Recursion 3:9");
+    Ok(())
+}
+
+// One expression of many operators, one of many attributes, and subscripts of subscripts.
+fn long_lines(alloc: Global) -> Result<String, AllocError> {
+    let mut source = String::new(alloc);
+    source.push_str("#pythran export f(int[])\ndef f(a):\n x = a")?;
+    for _ in 0..20000 {
+        source.push_str(" + 1")?;
+    }
+    source.push_str("\n y = x")?;
+    for _ in 0..20000 {
+        source.push_str(".T")?;
+    }
+    source.push_str("\n y")?;
+    for _ in 0..20000 {
+        source.push_str("[1:]")?;
+    }
+    source.push_str(" = x\n")?;
+    Ok(source)
+}
+
+#[test]
+fn long_lines_are_walked(rt: HostRuntime) -> Result<(), Fail> {
+    let alloc = rt.alloc();
+    let source = long_lines(alloc)?;
+    let program = program_of(alloc, source.as_bytes())?;
+    let f = program.instances.as_slice().first().ok_or("no instance")?;
+    assert_eq!(rt; f.body.len(), 60001);
     Ok(())
 }

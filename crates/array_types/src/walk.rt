@@ -12,6 +12,9 @@ use krn_base::{Kind, Loc, Refusal, Rule, Seq, Stop, Text};
 use py_parse::Name;
 use std::alloc::{AllocError, Global};
 
+/// The place of a statement that can't fault.
+pub const NOWHERE: Loc = Loc { line: 0, col: 0 };
+
 /// A row, or a refusal at its place.
 pub fn need<T: Drop>(row: Option<T>, at: Loc, state: &State) -> Result<T, Stop>
     ensures { Walks (spec.need row at state.now) result state.now }
@@ -46,18 +49,6 @@ pub fn number_for(text: &[u8], names: &Known) -> Option<u32>
     names.get(text)
 }
 
-/// The place that a list has for a text.
-fn place_for(text: &[u8], names: &[(Text, Loc)]) -> Option<Loc>
-    ensures { result ≡ spec.find text.now names.now }
-{
-    for entry in names {
-        if entry.0.as_slice() == text {
-            return Some(entry.1);
-        }
-    }
-    None
-}
-
 /// Puts a statement behind those of the block.
 pub fn emit(core: Core, state: &mut State) -> Result<(), Stop>
     ensures { Walks (spec.emit core state.old) result state.new }
@@ -78,12 +69,26 @@ pub fn add(ty: Ty, state: &mut State) -> Result<u32, Stop>
     Ok(n as u32)
 }
 
-fn awaited(loop_at: Option<Loc>, ty: Ty, state: &State) -> Result<(), Stop>
-    ensures { Walks (spec.awaited loop_at ty state.now) result state.now }
+/// The place of a name that waits.
+pub fn place_of(i: u32, places: &[Loc]) -> Loc
+    ensures { result ≡ spec.place_of i places.now }
 {
-    match loop_at {
+    match places.get(i as usize) {
+        Some(at) => *at,
+        None => NOWHERE,
+    }
+}
+
+fn awaited(waiting: Option<u32>, ty: Ty, state: &State) -> Result<(), Stop>
+    ensures { Walks (spec.awaited waiting ty state.now) result state.now }
+{
+    match waiting {
         None => Ok(()),
-        Some(at) => test(same_type(ty, (Kind::Int64, 0)), at, state),
+        Some(i) => test(
+            same_type(ty, (Kind::Int64, 0)),
+            place_of(i, state.places.as_slice()),
+            state,
+        ),
     }
 }
 
@@ -91,11 +96,7 @@ fn awaited(loop_at: Option<Loc>, ty: Ty, state: &State) -> Result<(), Stop>
 fn add_text(text: Text, ty: Ty, state: &mut State) -> Result<u32, Stop>
     ensures { Walks (spec.add_text text ty state.old) result state.new }
 {
-    awaited(
-        place_for(text.as_slice(), state.awaited.as_slice()),
-        ty,
-        state,
-    )?;
+    awaited(number_for(text.as_slice(), &state.awaited), ty, state)?;
     let n = add(ty, state)?;
     state.known.add(text, n)?;
     Ok(n)
@@ -188,10 +189,15 @@ pub fn name_of(name: &Name, state: &State) -> Option<u32>
     number_for(name.text.as_slice(), &state.known)
 }
 
-/// Waits for a reduction's name.
-pub fn add_awaited(name: &Name, at: Loc, state: &mut State) -> Result<(), Stop>
-    ensures { Walks (forms.expected_by None name.now.text at state.old) result state.new }
+/// A reduction's name waits for its number; the answer is its place among those that wait.
+pub fn wait(name: &Name, at: Loc, state: &mut State) -> Result<u32, Stop>
+    ensures { Walks (forms.wait name.now.text at state.old) result state.new }
 {
-    state.awaited.push((name.text.try_copy()?, at))?;
-    Ok(())
+    let i = state.places.len();
+    if i > u32::MAX as usize {
+        return Err(Stop::Memory);
+    }
+    state.awaited.add(name.text.try_copy()?, i as u32)?;
+    state.places.push(at)?;
+    Ok(i as u32)
 }

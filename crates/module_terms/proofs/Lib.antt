@@ -3,3 +3,4 @@ pub mod Sets
 pub mod Inside
 pub mod Weights
 pub mod Blocks
+pub mod Ends

@@ -1,5 +1,5 @@
 -- What a call, a subscript and an attribute make of what stands before them.
-use Rattle.std.specs.Prelude.{ℕ, ◌==◌, nat_le, Bool, true, false, ◌&&◌, if◌then◌else◌, List, [], ◌∷◌, ◌++◌}
+use Rattle.std.specs.Prelude.{ℕ, ◌+◌, ◌==◌, nat_le, Bool, true, false, ◌&&◌, if◌then◌else◌, List, [], ◌∷◌, ◌++◌}
 use Rattle.std.specs.Prelude.{length, map, codes, Option, Some, None, ℤ, pos, negsuc, ◌-ℤ◌}
 use Rattle.array_ops.specs.declared.operation.Fill.{Fill}
 use Rattle.krn_base.specs.declared.kind.Kind.{Kind}
@@ -15,16 +15,18 @@ use Rattle.module_terms.specs.declared.rows.Row.{Row}
 use Rattle.module_terms.specs.declared.term.Operation.{Operation}
 use Rattle.module_terms.specs.declared.term.Operation.TheVariants as op
 use Rattle.module_terms.specs.declared.term.Part.{Part, out-Part}
+use Rattle.module_terms.specs.declared.term.Step.{Step}
+use Rattle.module_terms.specs.declared.term.Step.TheVariants as s
 use Rattle.module_terms.specs.declared.term.Term.{Term, out-Term}
 use Rattle.module_terms.specs.declared.term.Part.TheOpen.{Term-F, Part-F}
 use Rattle.module_terms.specs.declared.term.Term.TheVariants as t
 use Rattle.module_terms.specs.Numpy.{is_numpy}
-use Rattle.module_terms.specs.Rows.{is_word, apply, unary, built_in, method, numpy_function, field, fill_of}
+use Rattle.module_terms.specs.Rows.{is_word, apply, with_step, settled, built_in, method, numpy_function, field, fill_of}
 use Rattle.module_terms.specs.Rows.{own_kind, numpy_kind}
 
 -- `x.name`, not called
 abbrev pub attribute : Term → Name → Term
-attribute x name = unary (field name) name.loc x
+attribute x name = with_step x (s.Operate (field name) name.loc [])
 
 -- the value that is reached. A name of `numpy` that isn't called and a tuple have no row
 abbrev pub finish : Reached → Term
@@ -118,13 +120,17 @@ member_by None name plain keyed = call_function name plain keyed
 abbrev pub call_member : Name → List Reached → List Reached → Term
 call_member name plain keyed = member_by (fill_of name) name plain keyed
 
+-- a call of a method, whose first operand is what it is asked of
+abbrev pub call_method : Term → Name → List Term → Term
+call_method x name operands = with_step x (s.Operate (settled (method name) (length operands + 1)) name.loc operands)
+
 -- a call, at the place of its `(`, with the arguments without a key and those with one; what has no name has no row
 abbrev pub call : Loc → List Reached → List Reached → Reached → Term
 call at plain keyed (r.Named name) = call_name name (map finish plain)
 call at plain keyed (r.Member name) = call_member name plain keyed
-call at plain keyed (r.Attribute x name) = apply (method name) name (x ∷ map finish plain)
-call at plain keyed (r.Value x) = t.Apply op.None at (x ∷ map finish plain)
-call at plain keyed (r.Tuple start items) = t.Apply op.None at (t.Apply op.None start items ∷ map finish plain)
+call at plain keyed (r.Attribute x name) = call_method x name (map finish plain)
+call at plain keyed (r.Value x) = with_step x (s.Operate op.None at (map finish plain))
+call at plain keyed (r.Tuple start items) = with_step (t.Apply op.None start items) (s.Operate op.None at (map finish plain))
 
 -- ---- subscripts
 
@@ -133,7 +139,7 @@ negative (pos n) = Some (pos 0 -ℤ pos n)
 negative (negsuc n) = None
 
 abbrev Layer : Type 0
-Layer = Term-F Part Term
+Layer = Term-F Part Step Term
 
 abbrev negated_by : Layer → Option ℤ
 negated_by (Term-F.Int value) = negative value
@@ -159,7 +165,7 @@ literal_by _ = None
 abbrev pub literal_in : Term → Option ℤ
 literal_in x = literal_by (out-Term x)
 
-abbrev part_by : Part-F Part Term → Option ℤ
+abbrev part_by : Part-F Part Step Term → Option ℤ
 part_by (Part-F.At x) = literal_in x
 part_by _ = None
 
@@ -174,20 +180,20 @@ abbrev pub axis : Name → List Part → Option ℤ
 axis name parts = if is_word (codes "shape") name then literal parts else None
 
 abbrev pub pick_value : Loc → Term → List Part → Term
-pick_value at x parts = t.Pick at x parts
+pick_value at x parts = with_step x (s.Pick at parts)
 
 -- `a.shape[k]`; subscripts of another attribute
 abbrev pub pick_attribute : Option ℤ → Loc → Term → Name → List Part → Term
-pick_attribute (Some k) at x name parts = unary (op.Extent k) name.loc x
-pick_attribute None at x name parts = t.Pick at (attribute x name) parts
+pick_attribute (Some k) at x name parts = with_step x (s.Operate (op.Extent k) name.loc [])
+pick_attribute None at x name parts = pick_value at (attribute x name) parts
 
 -- subscripts, at the place of their `[`
 abbrev pub pick : Loc → List Part → Reached → Term
 pick at parts (r.Attribute x name) = pick_attribute (axis name parts) at x name parts
-pick at parts (r.Value x) = t.Pick at x parts
-pick at parts (r.Named name) = t.Pick at (t.Name name) parts
-pick at parts (r.Member name) = t.Pick at (finish (r.Member name)) parts
-pick at parts (r.Tuple start items) = t.Pick at (t.Apply op.None start items) parts
+pick at parts (r.Value x) = pick_value at x parts
+pick at parts (r.Named name) = pick_value at (t.Name name) parts
+pick at parts (r.Member name) = pick_value at (finish (r.Member name)) parts
+pick at parts (r.Tuple start items) = pick_value at (t.Apply op.None start items) parts
 
 -- ---- attributes
 

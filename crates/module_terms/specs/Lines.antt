@@ -21,12 +21,14 @@ use Rattle.module_terms.specs.declared.term.Line.TheVariants as l
 use Rattle.module_terms.specs.declared.term.Loop.{Loop}
 use Rattle.module_terms.specs.declared.term.Part.{Part}
 use Rattle.module_terms.specs.declared.term.Routine.{Routine}
+use Rattle.module_terms.specs.declared.term.Step.{Step, out-Step}
 use Rattle.module_terms.specs.declared.term.Term.{Term, out-Term}
-use Rattle.module_terms.specs.declared.term.Part.TheOpen.{Term-F}
+use Rattle.module_terms.specs.declared.term.Term.TheVariants as t
+use Rattle.module_terms.specs.declared.term.Part.TheOpen.{Term-F, Step-F}
 use Rattle.module_terms.specs.Expressions.{term, terms}
 
 abbrev Layer : Type 0
-Layer = Term-F Part Term
+Layer = Term-F Part Step Term
 
 -- a statement alone is a call of an own function
 abbrev alone_by : Layer → Option Line
@@ -36,18 +38,52 @@ alone_by _ = None
 abbrev pub alone : Term → Option Line
 alone x = alone_by (out-Term x)
 
+-- the last of a list, behind the others
+abbrev pub behind : Step → Option (List Step × Step) → List Step × Step
+behind step None = ([], step)
+behind step (Some (before, last)) = (step ∷ before, last)
+
+abbrev pub split_last : List Step → Option (List Step × Step)
+split_last [] = None
+split_last (step ∷ steps) = Some (behind step (split_last steps))
+
+-- a value after steps, of which there may be none
+abbrev after_by : Term → Option (List Step × Step) → Term
+after_by first None = first
+after_by first (Some (before, last)) = t.Steps first before last
+
+abbrev pub after : Term → List Step → Term
+after first steps = after_by first (split_last steps)
+
+abbrev LastStep : Type 0
+LastStep = Step-F Part Step Term
+
+abbrev store_by : LastStep → Term → Loc → Term → Option Line
+store_by (Step-F.Pick bracket parts) array at value = Some (l.Store array bracket parts at value)
+store_by _ array at value = None
+
+abbrev pub store : Term → Step → Loc → Term → Option Line
+store array last at value = store_by (out-Step last) array at value
+
 -- a target is a name, or subscripts of an array
 abbrev assign_by : Layer → Loc → Term → Option Line
 assign_by (Term-F.Name name) at value = Some (l.Assign name at value)
-assign_by (Term-F.Pick bracket array parts) at value = Some (l.Store array bracket parts at value)
+assign_by (Term-F.Steps first before last) at value = store (after first before) last at value
 assign_by _ at value = None
 
 abbrev pub assign : Term → Loc → Term → Option Line
 assign target at value = assign_by (out-Term target) at value
 
+abbrev update_by : LastStep → Term → BinOp → Loc → Term → Option Line
+update_by (Step-F.Pick bracket parts) array op at value = Some (l.AugmentPick array bracket parts op at value)
+update_by _ array op at value = None
+
+abbrev pub update : Term → Step → BinOp → Loc → Term → Option Line
+update array last op at value = update_by (out-Step last) array op at value
+
 abbrev augment_by : Layer → BinOp → Loc → Term → Option Line
 augment_by (Term-F.Name name) op at value = Some (l.AugmentName name op at value)
-augment_by (Term-F.Pick bracket array parts) op at value = Some (l.AugmentPick array bracket parts op at value)
+augment_by (Term-F.Steps first before last) op at value = update (after first before) last op at value
 augment_by _ op at value = None
 
 abbrev pub augment : Term → BinOp → Loc → Term → Option Line

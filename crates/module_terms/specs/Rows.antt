@@ -1,5 +1,5 @@
 -- The tables of calls and attributes (this project's subset of Python and NumPy).
-use Rattle.std.specs.Prelude.{ℕ, ◌==◌, nat_le, Bool, if◌then◌else◌, List, [], ◌∷◌, length, codes, Option, Some, None, ℤ}
+use Rattle.std.specs.Prelude.{ℕ, ◌==◌, nat_le, Bool, if◌then◌else◌, List, [], ◌∷◌, ◌++◌, length, codes, Option, Some, None, ℤ}
 use Rattle.std.specs.Prelude.{pos, negsuc}
 use Rattle.std.specs.Str.{bytes_eq}
 use Rattle.array_ops.specs.declared.operation.Fill.{Fill}
@@ -14,7 +14,11 @@ use Rattle.py_parse.specs.declared.tree.Name.{Name}
 use Rattle.module_terms.specs.declared.rows.Row.{Row}
 use Rattle.module_terms.specs.declared.term.Operation.{Operation}
 use Rattle.module_terms.specs.declared.term.Operation.TheVariants as op
-use Rattle.module_terms.specs.declared.term.Term.{Term}
+use Rattle.module_terms.specs.declared.term.Part.{Part}
+use Rattle.module_terms.specs.declared.term.Part.TheOpen.{Term-F}
+use Rattle.module_terms.specs.declared.term.Step.{Step}
+use Rattle.module_terms.specs.declared.term.Step.TheVariants as s
+use Rattle.module_terms.specs.declared.term.Term.{Term, out-Term}
 use Rattle.module_terms.specs.declared.term.Term.TheVariants as t
 
 abbrev pub Bytes : Type 0
@@ -111,5 +115,14 @@ apply r name operands = t.Apply (settled r (length operands)) name.loc operands
 abbrev pub unary : Operation → Loc → Term → Term
 unary operation at x = t.Apply operation at (x ∷ [])
 
+abbrev with_step_by : Term-F Part Step Term → Term → Step → Term
+with_step_by (Term-F.Steps first before last) x step = t.Steps first (before ++ last ∷ []) step
+with_step_by _ x step = t.Steps x [] step
+
+-- a value with one more step
+abbrev pub with_step : Term → Step → Term
+with_step x step = with_step_by (out-Term x) x step
+
+-- an operator between what stands before it and an operand
 abbrev pub binary : Operation → Loc → Term → Term → Term
-binary operation at x y = t.Apply operation at (x ∷ y ∷ [])
+binary operation at x y = with_step x (s.Operate operation at (y ∷ []))

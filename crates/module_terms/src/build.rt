@@ -1,10 +1,11 @@
-//! Short lists, and copies of names.
+//! Short lists, copies of names, and terms of their parts.
 
 ghost use Rattle.std.specs.Prelude.{◌≡◌, ◌∷◌, ◌++◌, [], IfOk, OnOk};
 ghost use Rattle.module_terms.specs.Rows as spec;
+ghost use Rattle.module_terms.specs.declared.term.Step.TheVariants as s;
 
-use crate::term::{Operation, Term};
-use krn_base::{Loc, Seq};
+use crate::term::{Operation, Step, Term};
+use krn_base::{Boxed, Loc, Seq};
 use py_parse::Name;
 use std::alloc::{AllocError, Global};
 
@@ -14,16 +15,6 @@ pub fn one<T: Drop>(alloc: Global, item: T) -> Result<Seq<T>, AllocError>
 {
     let mut list = Seq::new(alloc);
     list.push(item)?;
-    Ok(list)
-}
-
-/// The list of two elements.
-pub fn two<T: Drop>(alloc: Global, first: T, second: T) -> Result<Seq<T>, AllocError>
-    ensures { IfOk result (λ list. list ≡ first ∷ second ∷ []) }
-{
-    let mut list = Seq::new(alloc);
-    list.push(first)?;
-    list.push(second)?;
     Ok(list)
 }
 
@@ -65,7 +56,28 @@ pub fn unary(alloc: Global, operation: Operation, at: Loc, x: Term) -> Result<Te
     Ok(Term::Apply(operation, at, one(alloc, x)?))
 }
 
-/// An operation on two operands.
+/// A value with one more step. Takes time for the step alone, however many stand before it.
+pub fn with_step(alloc: Global, x: Term, step: Step) -> Result<Term, AllocError>
+    ensures { IfOk result (λ term. term ≡ spec.with_step x step) }
+{
+    match x {
+        Term::Steps(first, before, last) => {
+            let mut before = before;
+            before.push(last)?;
+            Ok(Term::Steps(first, before, step))
+        }
+        first => Ok(Term::Steps(Boxed::new(alloc, first)?, Seq::new(alloc), step)),
+    }
+}
+
+/// An operation on a value alone, as a step.
+pub fn follow(alloc: Global, x: Term, operation: Operation, at: Loc) -> Result<Term, AllocError>
+    ensures { IfOk result (λ term. term ≡ spec.with_step x (s.Operate operation at [])) }
+{
+    with_step(alloc, x, Step::Operate(operation, at, Seq::new(alloc)))
+}
+
+/// An operator between a value and an operand, as a step.
 pub fn binary(
     alloc: Global,
     operation: Operation,
@@ -75,5 +87,6 @@ pub fn binary(
 ) -> Result<Term, AllocError>
     ensures { IfOk result (λ term. term ≡ spec.binary operation at x y) }
 {
-    Ok(Term::Apply(operation, at, two(alloc, x, y)?))
+    let operands = one(alloc, y)?;
+    with_step(alloc, x, Step::Operate(operation, at, operands))
 }

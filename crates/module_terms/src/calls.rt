@@ -3,13 +3,13 @@
 ghost use Rattle.std.specs.Prelude.{◌≡◌, ◌∷◌, [], IfOk, map};
 ghost use Rattle.module_terms.specs.Calls as spec;
 
-use crate::build::unary;
+use crate::build::{follow, with_step};
 use crate::makers::{arange, fresh};
 use crate::numpy::{Numpy, is_numpy};
-use crate::reached::{Arguments, Reached, attribute, finish, finish_all, finish_behind};
-use crate::rows::{apply, built_in, fill_of, is_word, method, numpy_function};
-use crate::term::{Operation, Part, Term};
-use krn_base::{Boxed, Loc, Seq};
+use crate::reached::{Arguments, Reached, attribute, finish, finish_all};
+use crate::rows::{apply, built_in, fill_of, is_word, method, numpy_function, settled};
+use crate::term::{Operation, Part, Step, Term};
+use krn_base::{Loc, Seq};
 use py_parse::Name;
 use std::alloc::{AllocError, Global};
 
@@ -54,6 +54,19 @@ fn call_member(
     }
 }
 
+/// A call of a method, whose first operand is what it is asked of.
+fn call_method(
+    alloc: Global,
+    x: Term,
+    name: &Name,
+    operands: Seq<Term>,
+) -> Result<Term, AllocError>
+    ensures { IfOk result (λ term. term ≡ spec.call_method x name.now operands) }
+{
+    let operation = settled(method(name), operands.len().saturating_add(1));
+    with_step(alloc, x, Step::Operate(operation, name.loc, operands))
+}
+
 /// A call, at the place of its `(`.
 pub fn call(
     alloc: Global,
@@ -68,17 +81,17 @@ pub fn call(
         Reached::Named(name) => Ok(call_name(name, finish_all(alloc, plain)?)),
         Reached::Member(name) => call_member(alloc, &name, plain, keyed),
         Reached::Attribute(x, name) => {
-            let operands = finish_behind(alloc, x, plain)?;
-            Ok(apply(method(&name), &name, operands))
+            let operands = finish_all(alloc, plain)?;
+            call_method(alloc, x, &name, operands)
         }
         Reached::Value(x) => {
-            let operands = finish_behind(alloc, x, plain)?;
-            Ok(Term::Apply(Operation::None, at, operands))
+            let operands = finish_all(alloc, plain)?;
+            with_step(alloc, x, Step::Operate(Operation::None, at, operands))
         }
         Reached::Tuple(start, items) => {
             let callee = Term::Apply(Operation::None, start, items);
-            let operands = finish_behind(alloc, callee, plain)?;
-            Ok(Term::Apply(Operation::None, at, operands))
+            let operands = finish_all(alloc, plain)?;
+            with_step(alloc, callee, Step::Operate(Operation::None, at, operands))
         }
     }
 }
@@ -160,7 +173,7 @@ fn axis(name: &Name, parts: &[Part]) -> Option<i64>
 fn pick_value(alloc: Global, at: Loc, x: Term, parts: Seq<Part>) -> Result<Term, AllocError>
     ensures { IfOk result (λ term. term ≡ spec.pick_value at x parts) }
 {
-    Ok(Term::Pick(at, Boxed::new(alloc, x)?, parts))
+    with_step(alloc, x, Step::Pick(at, parts))
 }
 
 fn pick_attribute(
@@ -173,7 +186,7 @@ fn pick_attribute(
     ensures { IfOk result (λ term. term ≡ spec.pick_attribute (spec.axis name.now parts) at x name.now parts) }
 {
     match axis(name, parts.as_slice()) {
-        Some(k) => unary(alloc, Operation::Extent(k), name.loc, x),
+        Some(k) => follow(alloc, x, Operation::Extent(k), name.loc),
         None => pick_value(alloc, at, attribute(alloc, x, name)?, parts),
     }
 }

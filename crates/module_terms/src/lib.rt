@@ -19,4 +19,4 @@ mod term;
 mod tests;
 
 pub use functions::resolve;
-pub use term::{Line, Loop, Operation, Part, Routine, Term};
+pub use term::{Line, Loop, Operation, Part, Routine, Step, Term};

@@ -1,9 +1,9 @@
 //! What an expression is before it has to be a value.
 
-ghost use Rattle.std.specs.Prelude.{◌≡◌, ◌∷◌, ◌++◌, [], IfOk, map};
+ghost use Rattle.std.specs.Prelude.{◌≡◌, ◌++◌, IfOk, map};
 ghost use Rattle.module_terms.specs.Calls as spec;
 
-use crate::build::unary;
+use crate::build::follow;
 use crate::rows::field;
 use crate::term::{Operation, Term};
 use krn_base::{Loc, Seq};
@@ -42,7 +42,7 @@ pub struct Arguments {
 pub fn attribute(alloc: Global, x: Term, name: &Name) -> Result<Term, AllocError>
     ensures { IfOk result (λ term. term ≡ spec.attribute x name.now) }
 {
-    unary(alloc, field(name), name.loc, x)
+    follow(alloc, x, field(name), name.loc)
 }
 
 /// The value that is reached. A name of `numpy` that isn't called and a tuple are no values: an operation without a
@@ -64,22 +64,6 @@ pub fn finish_all(alloc: Global, list: Seq<Reached>) -> Result<Seq<Term>, AllocE
     ensures { IfOk result (λ terms. terms ≡ map spec.finish list) }
 {
     let mut terms = Seq::new(alloc);
-    for reached in list.into_vec() {
-        terms.push(finish(alloc, reached)?)?;
-    }
-    Ok(terms)
-}
-
-/// The values that are reached, behind one.
-pub fn finish_behind(
-    alloc: Global,
-    first: Term,
-    list: Seq<Reached>,
-) -> Result<Seq<Term>, AllocError>
-    ensures { IfOk result (λ terms. terms ≡ first ∷ map spec.finish list) }
-{
-    let mut terms = Seq::new(alloc);
-    terms.push(first)?;
     for reached in list.into_vec() {
         terms.push(finish(alloc, reached)?)?;
     }

@@ -181,7 +181,8 @@ pub fn power(exponent: i64) -> Operation
     }
 }
 
-fn settled(row: Option<Row>, operands: usize) -> Operation
+/// What a row does with so many operands; where the table has no such row, nothing.
+pub fn settled(row: Option<Row>, operands: usize) -> Operation
     ensures { result ≡ spec.settled row operands }
 {
     match row {

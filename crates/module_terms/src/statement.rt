@@ -3,8 +3,8 @@
 ghost use Rattle.std.specs.Prelude.{◌≡◌, ◌∷◌, ◌++◌, [], IfOk, OnOk};
 ghost use Rattle.module_terms.specs.Lines as spec;
 
-use crate::term::{Line, Loop, Term};
-use krn_base::{BinOp, Join, Loc, Seq};
+use crate::term::{Line, Loop, Step, Term};
+use krn_base::{BinOp, Boxed, Join, Loc, Seq};
 use py_parse::Name;
 use std::alloc::{AllocError, Global};
 
@@ -18,15 +18,56 @@ pub fn alone(x: Term) -> Option<Line>
     }
 }
 
+/// The last of a list, behind the others.
+fn split_last(steps: Seq<Step>) -> Option<(Seq<Step>, Step)>
+    ensures { result ≡ spec.split_last steps }
+{
+    let mut items = steps.into_vec();
+    match items.pop() {
+        None => None,
+        Some(last) => Some((Seq::from_vec(items), last)),
+    }
+}
+
+/// A value after steps, of which there may be none.
+fn after(first: Boxed<Term>, steps: Seq<Step>) -> Term
+    ensures { result ≡ spec.after first steps }
+{
+    match split_last(steps) {
+        None => first.into_inner(),
+        Some((before, last)) => Term::Steps(first, before, last),
+    }
+}
+
+/// A store by the last step of a target, where that is subscripts.
+fn store(array: Term, last: Step, at: Loc, value: Term) -> Option<Line>
+    ensures { result ≡ spec.store array last at value }
+{
+    match last {
+        Step::Pick(bracket, parts) => Some(Line::Store(array, bracket, parts, at, value)),
+        _ => None,
+    }
+}
+
+/// An augmented store by the last step of a target, where that is subscripts.
+fn update(array: Term, last: Step, op: BinOp, at: Loc, value: Term) -> Option<Line>
+    ensures { result ≡ spec.update array last op at value }
+{
+    match last {
+        Step::Pick(bracket, parts) => {
+            Some(Line::AugmentPick(array, bracket, parts, op, at, value))
+        }
+        _ => None,
+    }
+}
+
 /// An assignment to a name or to subscripts of an array; another target leaves none.
 pub fn assign(target: Term, at: Loc, value: Term) -> Option<Line>
     ensures { result ≡ spec.assign target at value }
 {
     match target {
         Term::Name(name) => Some(Line::Assign(name, at, value)),
-        Term::Pick(bracket, array, parts) => {
-            Some(Line::Store(array.into_inner(), bracket, parts, at, value))
-        }
+        Term::Steps(first, before, last) => store(after(first, before), last, at, value),
         _ => None,
     }
 }
@@ -37,9 +78,7 @@ pub fn augment(target: Term, op: BinOp, at: Loc, value: Term) -> Option<Line>
 {
     match target {
         Term::Name(name) => Some(Line::AugmentName(name, op, at, value)),
-        Term::Pick(bracket, array, parts) => {
-            Some(Line::AugmentPick(array.into_inner(), bracket, parts, op, at, value))
-        }
+        Term::Steps(first, before, last) => update(after(first, before), last, op, at, value),
         _ => None,
     }
 }

@@ -63,10 +63,21 @@ pub enum Term {
     /// Operands joined by `and` where the first field is true, else by `or`, from the left. Each place is that of the
     /// operator before its operand. There is at least one operator.
     Logic(bool, Boxed<Term>, Seq<(Loc, Term)>),
-    /// The place of the `[`, the array, and its subscripts.
-    Pick(Loc, Boxed<Term>, Seq<Part>),
+    /// A value, and what is done with it, one step after another, with the last step apart: a chain of operators, of
+    /// attributes, of methods and of subscripts, however long it is, is one term.
+    Steps(Boxed<Term>, Seq<Step>, Step),
     /// A call of an own function.
     Call(Name, Seq<Term>),
+}
+
+/// What is done with the value of all that stands before it.
+#[cycle(terms)]
+#[derive(Debug, PartialEq, Eq, Drop)]
+pub enum Step {
+    /// An operation at its place on that value and the operands behind it.
+    Operate(Operation, Loc, Seq<Term>),
+    /// The place of the `[`, and the subscripts.
+    Pick(Loc, Seq<Part>),
 }
 
 /// A subscript.

@@ -9,7 +9,7 @@ use std::alloc::{AllocError, Global};
 use std::fmt::Write;
 use std::test::Fail;
 
-static EXPRESSIONS: [(&str, &str); 49] = [
+static EXPRESSIONS: [(&str, &str); 50] = [
     ("a", "Name([97] 3:6)"),
     ("-7", "Apply(Minus, 3:6, [Int(7)])"),
     ("+True", "Apply(Plus, 3:6, [Truth(true)])"),
@@ -18,12 +18,16 @@ static EXPRESSIONS: [(&str, &str); 49] = [
     ("a ** 62", "Apply(Power(62), 3:8, [Name([97] 3:6)])"),
     (
         "a - b * 2 - 1",
-        "Apply(Binary(Sub), 3:16, [Apply(Binary(Sub), 3:8, [Name([97] 3:6), Apply(Binary(Mul), 3:12, [Name([98] \
-         3:10), Int(2)])]), Int(1)])",
+        "Steps(Name([97] 3:6), [Operate(Binary(Sub), 3:8, [Steps(Name([98] 3:10), [], Operate(Binary(Mul), 3:12, \
+         [Int(2)]))])], Operate(Binary(Sub), 3:16, [Int(1)]))",
+    ),
+    (
+        "(a + b) - 1",
+        "Steps(Name([97] 3:7), [Operate(Binary(Add), 3:9, [Name([98] 3:11)])], Operate(Binary(Sub), 3:14, [Int(1)]))",
     ),
     (
         "(a) < b",
-        "Apply(Binary(Lt), 3:10, [Name([97] 3:7), Name([98] 3:12)])",
+        "Steps(Name([97] 3:7), [], Operate(Binary(Lt), 3:10, [Name([98] 3:12)]))",
     ),
     (
         "a and b and a",
@@ -72,22 +76,37 @@ static EXPRESSIONS: [(&str, &str); 49] = [
     ("n.any(a)", "Apply(Reduce(Any), 3:8, [Name([97] 3:12)])"),
     ("n.all(a)", "Apply(Reduce(All), 3:8, [Name([97] 3:12)])"),
     ("n.copy(a)", "Apply(Copy, 3:8, [Name([97] 3:13)])"),
-    ("a.sum()", "Apply(Reduce(Sum), 3:8, [Name([97] 3:6)])"),
+    (
+        "a.sum()",
+        "Steps(Name([97] 3:6), [], Operate(Reduce(Sum), 3:8, []))",
+    ),
     (
         "(a + b).all()",
-        "Apply(Reduce(All), 3:14, [Apply(Binary(Add), 3:9, [Name([97] 3:7), Name([98] 3:11)])])",
+        "Steps(Name([97] 3:7), [Operate(Binary(Add), 3:9, [Name([98] 3:11)])], Operate(Reduce(All), 3:14, []))",
     ),
-    ("a.copy()", "Apply(Copy, 3:8, [Name([97] 3:6)])"),
+    (
+        "a.copy()",
+        "Steps(Name([97] 3:6), [], Operate(Copy, 3:8, []))",
+    ),
     (
         "a.sum(b)",
-        "Apply(None, 3:8, [Name([97] 3:6), Name([98] 3:12)])",
+        "Steps(Name([97] 3:6), [], Operate(None, 3:8, [Name([98] 3:12)]))",
     ),
-    ("a.T", "Apply(Transpose, 3:8, [Name([97] 3:6)])"),
-    ("a.size", "Apply(Size, 3:8, [Name([97] 3:6)])"),
-    ("a.shape[1]", "Apply(Extent(1), 3:8, [Name([97] 3:6)])"),
+    (
+        "a.T",
+        "Steps(Name([97] 3:6), [], Operate(Transpose, 3:8, []))",
+    ),
+    (
+        "a.size",
+        "Steps(Name([97] 3:6), [], Operate(Size, 3:8, []))",
+    ),
+    (
+        "a.shape[1]",
+        "Steps(Name([97] 3:6), [], Operate(Extent(1), 3:8, []))",
+    ),
     (
         "a.T.shape[-2]",
-        "Apply(Extent(-2), 3:10, [Apply(Transpose, 3:8, [Name([97] 3:6)])])",
+        "Steps(Name([97] 3:6), [Operate(Transpose, 3:8, [])], Operate(Extent(-2), 3:10, []))",
     ),
     (
         "n.zeros(4, dtype=int)",
@@ -119,29 +138,29 @@ static EXPRESSIONS: [(&str, &str); 49] = [
     ),
     (
         "a[1, :2, ::-3]",
-        "Pick(3:7, Name([97] 3:6), [At(Int(1)), Cut(None, Some(Int(2)), None), Cut(None, None, Some(Apply(Minus, \
-         3:17, [Int(3)])))])",
+        "Steps(Name([97] 3:6), [], Pick(3:7, [At(Int(1)), Cut(None, Some(Int(2)), None), Cut(None, None, \
+         Some(Apply(Minus, 3:17, [Int(3)])))]))",
     ),
     (
         "g(a)[0].T",
-        "Apply(Transpose, 3:14, [Pick(3:10, Call([103] 3:6, [Name([97] 3:8)]), [At(Int(0))])])",
+        "Steps(Call([103] 3:6, [Name([97] 3:8)]), [Pick(3:10, [At(Int(0))])], Operate(Transpose, 3:14, []))",
     ),
     (
         "g(a)(b)",
-        "Apply(None, 3:10, [Call([103] 3:6, [Name([97] 3:8)]), Name([98] 3:11)])",
+        "Steps(Call([103] 3:6, [Name([97] 3:8)]), [], Operate(None, 3:10, [Name([98] 3:11)]))",
     ),
 ];
 
 static STATEMENTS: (&str, &str) = (
-    "import numpy as n\ndef f(a, b):\n pass\n a = 1\n a[0] = b\n a += 2\n a[1:] *= b\n f(a, b)\n for i in range(2, \
+    "import numpy as n\ndef f(a, b):\n pass\n a = 1\n a[0] = b\n a += 2\n a.T[1:] *= b\n f(a, b)\n for i in range(2, \
      b, -1):\n  a = i\n if a:\n  'text'\n elif b:\n  b = 1\n else:\n  b = 2\n return a, b\n",
-    "[Routine { name: [102] 2:5, params: [[97] 2:7, [98] 2:10], weight: 95, body: [Assign([97] 4:2, 4:4, Int(1)), \
+    "[Routine { name: [102] 2:5, params: [[97] 2:7, [98] 2:10], weight: 97, body: [Assign([97] 4:2, 4:4, Int(1)), \
      Store(Name([97] 5:2), 5:3, [At(Int(0))], 5:7, Name([98] 5:9)), AugmentName([97] 6:2, Add, 6:4, Int(2)), \
-     AugmentPick(Name([97] 7:2), 7:3, [Cut(Some(Int(1)), None, None)], Mul, 7:8, Name([98] 7:11)), Alone([102] 8:2, \
-     [Name([97] 8:4), Name([98] 8:7)]), For(Loop { var: [105] 9:6, at: 9:11, args: [Int(2), Name([98] 9:20), \
-     Apply(Minus, 9:23, [Int(1)])], omp: None, [Assign([97] 10:3, 10:5, Name([105] 10:7))]), If(11:2, Name([97] \
-     11:5), [], [If(13:2, Name([98] 13:7), [Assign([98] 14:3, 14:5, Int(1))], [Assign([98] 16:3, 16:5, Int(2))])]), \
-     Return(17:2, [Name([97] 17:9), Name([98] 17:12)])]]",
+     AugmentPick(Steps(Name([97] 7:2), [], Operate(Transpose, 7:4, [])), 7:5, [Cut(Some(Int(1)), None, None)], Mul, \
+     7:10, Name([98] 7:13)), Alone([102] 8:2, [Name([97] 8:4), Name([98] 8:7)]), For(Loop { var: [105] 9:6, at: \
+     9:11, args: [Int(2), Name([98] 9:20), Apply(Minus, 9:23, [Int(1)])], omp: None, [Assign([97] 10:3, 10:5, \
+     Name([105] 10:7))]), If(11:2, Name([97] 11:5), [], [If(13:2, Name([98] 13:7), [Assign([98] 14:3, 14:5, \
+     Int(1))], [Assign([98] 16:3, 16:5, Int(2))])]), Return(17:2, [Name([97] 17:9), Name([98] 17:12)])]]",
 );
 
 static DIRECTIVE: (&str, &str) = (
@@ -233,6 +252,36 @@ fn large_source(alloc: Global) -> Result<String, AllocError> {
         source.push_str(" g(1, 2, 3, 4, 5, 6, 7, 8, 9)\n")?;
     }
     Ok(source)
+}
+
+// One expression of many operators, and one of many attributes.
+fn long_lines(alloc: Global) -> Result<String, AllocError> {
+    let mut source = String::new(alloc);
+    source.push_str("def g(a):\n x = a")?;
+    for _ in 0..20000 {
+        source.push_str(" + 1")?;
+    }
+    source.push_str("\n y = a")?;
+    for _ in 0..20000 {
+        source.push_str(".T")?;
+    }
+    source.push_str("[0]\n y")?;
+    for _ in 0..20000 {
+        source.push_str("[0]")?;
+    }
+    source.push_str(" = x\n")?;
+    Ok(source)
+}
+
+#[test]
+fn long_lines_are_resolved(rt: HostRuntime) -> Result<(), Fail> {
+    let alloc = rt.alloc();
+    let source = long_lines(alloc)?;
+    let module = read(alloc, source.as_bytes())?;
+    let routines = resolve(alloc, &module, &[])?;
+    let last = routines.as_slice().last().ok_or("no function")?;
+    assert_eq!(rt; last.body.len(), 3);
+    Ok(())
 }
 
 #[test]

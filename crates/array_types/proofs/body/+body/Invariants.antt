@@ -1,7 +1,7 @@
 use Rattle.std.proofs.Common.{◌≡◌, ◌+◌, ◌*◌, drop, map, [], ℕ, List, max}
 use denote.Param.Weighed.{most}
 use Rattle.module_terms.specs.declared.term.Term.{size-Term}
-use Rattle.array_types.specs.Forms.{values_from, subs_from, chained, link_of, term, part, in_order, line}
+use Rattle.array_types.specs.Forms.{values_from, subs_from, chained, followed, link_of, term, part, step, in_order, line}
 use Rattle.array_types.specs.Modules.{calls_at}
 use Rattle.array_types.specs.Weights.{line_weight, block_weight, deepest}
 use Rattle.module_terms.specs.declared.term.Routine.{Routine}
@@ -11,7 +11,12 @@ use Rattle.array_types.proofs.body.+body.Given as goal
 abbrev pub invariant-terms-loop-x : goal.invariant-terms-loop-x
 invariant-terms-loop-x l =
     values_from l.found (map (term (calls_at l.routines l.names l.depth)) (drop l.x-index l.args)) l.state ≡
-    values_from [] (map (term (calls_at l.routines l.names l.depth)) l.args) l.fn.state
+    values_from l.fn.before (map (term (calls_at l.routines l.names l.depth)) l.args) l.fn.state
+
+abbrev pub invariant-followed-loop-step : goal.invariant-followed-loop-step
+invariant-followed-loop-step l =
+    followed (map (step (calls_at l.routines l.names l.depth)) (drop l.step-index l.steps)) l.a l.state ≡
+    followed (map (step (calls_at l.routines l.names l.depth)) l.steps) l.fn.first l.fn.state
 
 abbrev pub invariant-subscripts-loop-x : goal.invariant-subscripts-loop-x
 invariant-subscripts-loop-x l =
@@ -46,6 +51,12 @@ decreases-term l = level l.depth l.routines.now + 4 * goal.size-term l + 2
 
 abbrev pub decreases-terms : goal.decreases-terms
 decreases-terms l = level l.depth l.routines.now + 4 * goal.size-terms l + 3
+
+abbrev pub decreases-followed : goal.decreases-followed
+decreases-followed l = level l.depth l.routines.now + 4 * goal.size-followed l + 3
+
+abbrev pub decreases-follow : goal.decreases-follow
+decreases-follow l = level l.depth l.routines.now + 4 * goal.size-follow l + 2
 
 abbrev pub decreases-links : goal.decreases-links
 decreases-links l = level l.depth l.routines.now + 4 * goal.size-links l + 4
