@@ -1,0 +1,7 @@
+pub mod Weights
+pub mod Folds
+pub mod Steps
+pub mod Runs
+pub mod Fits
+pub mod Walks
+pub mod Modules
