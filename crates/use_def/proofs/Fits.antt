@@ -45,8 +45,8 @@ pub record Fits (w : Walk) (f : Flow) : Type 0 where
       → (x : Bytes) × (o : Choice) × (s x ≡ false) × ReadsFirst at x (w o)
   pub marks : (s : Set) (at : Loc) (x : Bytes) (o : Choice) → s x ≡ false → ReadsFirst at x (w o)
       → Among at (given (f s).1)
-  pub open : (s : Set) (x : Bytes) → (f s).0 x ≡ false → (s x ≡ false) × ((o : Choice) × Passes x (w o))
-  pub opens : (s : Set) (x : Bytes) (o : Choice) → s x ≡ false → Passes x (w o) → (f s).0 x ≡ false
+  pub spares : (s : Set) (x : Bytes) → (f s).0 x ≡ false → (s x ≡ false) × ((o : Choice) × Passes x (w o))
+  pub spared : (s : Set) (x : Bytes) (o : Choice) → s x ≡ false → Passes x (w o) → (f s).0 x ≡ false
 
 pub same_flow : (w : Walk) (f g : Flow) → ((s : Set) → f s ≡ g s) → Fits w f → Fits w g
 same_flow w f g same = subst (Fits w) (fun_ext same)
@@ -55,8 +55,8 @@ pub nothing_fits : Fits (λ o. []) (λ s. (s, []))
 nothing_fits = record {
   marked = λ s at h. absurd h;
   marks = λ s at x o un r. absurd r;
-  open = λ s x un. (un, Any, tt);
-  opens = λ s x o un p. un;
+  spares = λ s x un. (un, Any, tt);
+  spared = λ s x o un p. un;
 }
 
 abbrev pub in_turn : Flow → Flow → Flow
@@ -80,7 +80,7 @@ module _ (a b w : Walk) (f g : Flow) (are : AreJoined a b w) (fits : Fits a f) (
   by_next : (s : Set) (at : Loc) → Among at (given (g (f s).0).1) → Marked s at
   by_next s at h =
       let (x, q, un, r) = next.marked (f s).0 at h in
-      let (first, p, pass) = fits.open s x un in
+      let (first, p, pass) = fits.spares s x un in
       let (o, is) = are.join p q in
       (x, o, first, subst (ReadsFirst at x) (sym is) (read_right at x (a p) (b q) pass r))
 
@@ -93,7 +93,7 @@ module _ (a b w : Walk) (f g : Flow) (are : AreJoined a b w) (fits : Fits a f) (
       → Among at (given ((f s).1 ++ (g (f s).0).1))
   by_parts s at x p q un (inl r) = given_left at (f s).1 (g (f s).0).1 (fits.marks s at x p un r)
   by_parts s at x p q un (inr r) =
-      given_right at (f s).1 (g (f s).0).1 (next.marks (f s).0 at x q (fits.opens s x p un r.0) r.1)
+      given_right at (f s).1 (g (f s).0).1 (next.marks (f s).0 at x q (fits.spared s x p un r.0) r.1)
 
   pub joined_fits : Fits w (in_turn f g)
   joined_fits = record {
@@ -101,15 +101,15 @@ module _ (a b w : Walk) (f g : Flow) (are : AreJoined a b w) (fits : Fits a f) (
     marks = λ s at x o un r.
         let (p, q, is) = are.split o in
         by_parts s at x p q un (read_split at x (a p) (b q) (subst (ReadsFirst at x) is r));
-    open = λ s x un.
-        let (mid, q, later) = next.open (f s).0 x un in
-        let (first, p, pass) = fits.open s x mid in
+    spares = λ s x un.
+        let (mid, q, later) = next.spares (f s).0 x un in
+        let (first, p, pass) = fits.spares s x mid in
         let (o, is) = are.join p q in
         (first, o, subst (Passes x) (sym is) (pass_join x (a p) (b q) pass later));
-    opens = λ s x o un pass.
+    spared = λ s x o un pass.
         let (p, q, is) = are.split o in
         let (here, later) = pass_split x (a p) (b q) (subst (Passes x) is pass) in
-        next.opens (f s).0 x q (fits.opens s x p un here) later;
+        next.spared (f s).0 x q (fits.spared s x p un here) later;
   }
 
 -- a path without a choice, and one behind it
@@ -162,27 +162,27 @@ module _ (a b : Walk) (f g : Flow) (part : Fits a f) (other : Fits b g) where
   one_marks s at x (Pick p zero q) un r = given_left at (f s).1 (g s).1 (part.marks s at x p un r)
   one_marks s at x (Pick p (suc n) q) un r = given_right at (f s).1 (g s).1 (other.marks s at x q un r)
 
-  one_open : (s : Set) (x : Bytes) → ((f s).0 x ≡ false) ⊎ ((g s).0 x ≡ false)
+  one_spares : (s : Set) (x : Bytes) → ((f s).0 x ≡ false) ⊎ ((g s).0 x ≡ false)
       → (s x ≡ false) × ((o : Choice) × Passes x (one_of a b o))
-  one_open s x (inl h) =
-      let (un, o, pass) = part.open s x h in
+  one_spares s x (inl h) =
+      let (un, o, pass) = part.spares s x h in
       (un, Pick o zero Any, pass)
-  one_open s x (inr h) =
-      let (un, o, pass) = other.open s x h in
+  one_spares s x (inr h) =
+      let (un, o, pass) = other.spares s x h in
       (un, Pick Any (suc zero) o, pass)
 
-  one_opens : (s : Set) (x : Bytes) (o : Choice) → s x ≡ false → Passes x (one_of a b o)
+  one_spared : (s : Set) (x : Bytes) (o : Choice) → s x ≡ false → Passes x (one_of a b o)
       → both (f s).0 (g s).0 x ≡ false
-  one_opens s x Any un pass = false_left ((f s).0 x) ((g s).0 x) (part.opens s x Any un pass)
-  one_opens s x (Pick p zero q) un pass = false_left ((f s).0 x) ((g s).0 x) (part.opens s x p un pass)
-  one_opens s x (Pick p (suc n) q) un pass = false_right ((f s).0 x) ((g s).0 x) (other.opens s x q un pass)
+  one_spared s x Any un pass = false_left ((f s).0 x) ((g s).0 x) (part.spared s x Any un pass)
+  one_spared s x (Pick p zero q) un pass = false_left ((f s).0 x) ((g s).0 x) (part.spared s x p un pass)
+  one_spared s x (Pick p (suc n) q) un pass = false_right ((f s).0 x) ((g s).0 x) (other.spared s x q un pass)
 
   pub one_fits : Fits (one_of a b) (either_of f g)
   one_fits = record {
     marked = λ s at h. one_marked s at (given_split at (f s).1 (g s).1 h);
     marks = one_marks;
-    open = λ s x h. one_open s x (and_false ((f s).0 x) ((g s).0 x) h);
-    opens = one_opens;
+    spares = λ s x h. one_spares s x (and_false ((f s).0 x) ((g s).0 x) h);
+    spared = one_spared;
   }
 
 -- ---- any number of turns
@@ -208,8 +208,8 @@ module _ (turn : Walk) (f : Flow) (fits : Fits turn f) where
         let (x, o, un, r) = fits.marked s at h in
         (x, Pick o (suc zero) Any, un, read_left at x (turn o) [] r);
     marks = turns_marks;
-    open = λ s x un. (un, Any, tt);
-    opens = λ s x o un pass. un;
+    spares = λ s x un. (un, Any, tt);
+    spared = λ s x o un pass. un;
   }
 
 -- ---- reads, a binding, and the end of a path
@@ -234,16 +234,16 @@ pub read_fits : (name : Option Name) → Fits (λ o. read_event name) (λ s. (s,
 read_fits None = record {
   marked = λ s at h. absurd h;
   marks = λ s at x o un r. absurd r;
-  open = λ s x un. (un, Any, tt);
-  opens = λ s x o un p. un;
+  spares = λ s x un. (un, Any, tt);
+  spared = λ s x o un p. un;
 }
 read_fits (Some name) = record {
   marked = λ s at h.
       let (un, is) = when_unset (s name.text) at name h in
       (name.text, Any, un, inl (refl, is));
   marks = λ s at x o un r. read_marks s at x name un r;
-  open = λ s x un. (un, Any, (refl, tt));
-  opens = λ s x o un p. un;
+  spares = λ s x un. (un, Any, (refl, tt));
+  spared = λ s x o un p. un;
 }
 
 or_false : (a b : Bool) → (a || b) ≡ false → (a ≡ false) × (b ≡ false)
@@ -262,10 +262,10 @@ pub bind_fits : (name : Name) → Fits (λ o. Binds name ∷ []) (λ s. (with_na
 bind_fits name = record {
   marked = λ s at h. absurd h;
   marks = λ s at x o un r. absurd (bind_reads at x name r);
-  open = λ s x h.
+  spares = λ s x h.
       let (un, other) = or_false (s x) (bytes_eq name.text x) h in
       (un, Any, (other, tt));
-  opens = λ s x o un p. both_false (s x) (bytes_eq name.text x) un p.0;
+  spared = λ s x o un p. both_false (s x) (bytes_eq name.text x) un p.0;
 }
 
 pub target_fits : (name : Option Name) → Fits (λ o. binds name) (λ s. (with_target name s, []))
@@ -280,6 +280,6 @@ pub leave_fits : Fits (λ o. Leaves ∷ []) (λ s. (everything, []))
 leave_fits = record {
   marked = λ s at h. absurd h;
   marks = λ s at x o un r. absurd (leave_reads at x r);
-  open = λ s x h. absurd (let h : true ≡ false = h in cc);
-  opens = λ s x o un p. absurd (let p : true ≡ false = p.0 in cc);
+  spares = λ s x h. absurd (let h : true ≡ false = h in cc);
+  spared = λ s x o un p. absurd (let p : true ≡ false = p.0 in cc);
 }

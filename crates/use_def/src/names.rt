@@ -149,11 +149,7 @@ fn marked_of<'a>(
 }
 
 /// Adds a part that ends here.
-pub fn meet<'a>(
-    alloc: Global,
-    names: &Names<'a>,
-    common: &mut Common<'a>,
-) -> Result<(), AllocError>
+pub fn meet<'a>(alloc: Global, names: &Names<'a>, common: &mut Common<'a>) -> Result<(), AllocError>
     ensures { OnOk result (spec.common_set (spec.outside names.now) common.new
         ≡ both (spec.common_set (spec.outside names.now) common.old) (spec.assigned names.now)) }
 {

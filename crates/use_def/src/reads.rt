@@ -19,7 +19,11 @@ use std::alloc::{AllocError, Global};
 fn trailed<'a>(trailers: &[Trailer], name: Option<&'a Name>) -> Option<&'a Name>
     ensures { option_map (λ x. x.now) result ≡ spec.trailed trailers.now (option_map (λ x. x.now) name.entry) }
 {
-    if begins_with_call(trailers) { None } else { name }
+    if begins_with_call(trailers) {
+        None
+    } else {
+        name
+    }
 }
 
 /// The name that an expression begins with, unless it is called, or is itself the target of `=`.
@@ -27,13 +31,7 @@ fn head<'a>(role: Role<'_>, x: &'a Expr) -> Option<&'a Name>
     ensures { option_map (λ x. x.now) result ≡ spec.head (role_seen role.entry) x.now }
 {
     match x {
-        Expr::Name(name) => {
-            if is_assigned(role) {
-                None
-            } else {
-                Some(name)
-            }
-        }
+        Expr::Name(name) => { if is_assigned(role) { None } else { Some(name) } }
         Expr::Primary(head, trailers) => trailed(trailers.as_slice(), name_in(head.get())),
         _ => None,
     }

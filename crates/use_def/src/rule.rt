@@ -14,11 +14,7 @@ use py_parse::Module;
 use std::alloc::{AllocError, Global};
 
 /// The first read of an unassigned name in the functions that are reached.
-fn first_of(
-    alloc: Global,
-    tree: &Module,
-    reached: &[bool],
-) -> Result<Option<Loc>, AllocError>
+fn first_of(alloc: Global, tree: &Module, reached: &[bool]) -> Result<Option<Loc>, AllocError>
     ensures { IfOk result (λ first. first ≡ soonest None (all_marks tree.now reached.now)) }
 {
     let words = words_of(alloc, tree)?;

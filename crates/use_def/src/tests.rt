@@ -61,12 +61,18 @@ static BRANCHES: [(&str, &str); 22] = [
     ("def f(a):\n x[0] = a\n", "Unassigned 2:2"),
     ("def f(a):\n x[0] += a\n x = a\n", "Unassigned 2:2"),
     ("def f(a):\n if a:\n  x = 1\n return x\n", "Unassigned 4:9"),
-    ("def f(a):\n if True:\n  x = 1\n return x\n", "Unassigned 4:9"),
+    (
+        "def f(a):\n if True:\n  x = 1\n return x\n",
+        "Unassigned 4:9",
+    ),
     (
         "def f(a):\n if a:\n  pass\n else:\n  x = 1\n return x\n",
         "Unassigned 6:9",
     ),
-    ("def f(a):\n if a:\n  x = 1\n else:\n  x = 2\n return x\n", "ok"),
+    (
+        "def f(a):\n if a:\n  x = 1\n else:\n  x = 2\n return x\n",
+        "ok",
+    ),
     (
         "def f(a):\n if a:\n  x = 1\n elif a:\n  x = 2\n return x\n",
         "Unassigned 6:9",
@@ -79,8 +85,14 @@ static BRANCHES: [(&str, &str); 22] = [
         "def f(a):\n if a:\n  x = 1\n elif a:\n  x = 2\n else:\n  x = 3\n return x\n",
         "ok",
     ),
-    ("def f(a):\n if a:\n  x = 1\n elif x:\n  pass\n", "Unassigned 4:7"),
-    ("def f(a):\n if a:\n  x = 1\n else:\n  a = x\n", "Unassigned 5:7"),
+    (
+        "def f(a):\n if a:\n  x = 1\n elif x:\n  pass\n",
+        "Unassigned 4:7",
+    ),
+    (
+        "def f(a):\n if a:\n  x = 1\n else:\n  a = x\n",
+        "Unassigned 5:7",
+    ),
     (
         "def f(a):\n if a:\n  if a:\n   x = 1\n  else:\n   x = 2\n else:\n  x = 3\n return x\n",
         "ok",
@@ -102,11 +114,26 @@ static BRANCHES: [(&str, &str); 22] = [
 /// Loops and ends of paths.
 static LOOPS: [(&str, &str); 20] = [
     ("def f(a):\n for i in range(a):\n  a = i\n", "ok"),
-    ("def f(a):\n for i in range(a):\n  pass\n return i\n", "Unassigned 4:9"),
-    ("def f(a):\n i = 0\n for i in range(a):\n  pass\n return i\n", "ok"),
-    ("def f(a):\n for i in range(i):\n  pass\n", "Unassigned 2:17"),
-    ("def f(a):\n for i in range(a):\n  x = i\n return x\n", "Unassigned 4:9"),
-    ("def f(a):\n for i in range(3):\n  x = i\n return x\n", "Unassigned 4:9"),
+    (
+        "def f(a):\n for i in range(a):\n  pass\n return i\n",
+        "Unassigned 4:9",
+    ),
+    (
+        "def f(a):\n i = 0\n for i in range(a):\n  pass\n return i\n",
+        "ok",
+    ),
+    (
+        "def f(a):\n for i in range(i):\n  pass\n",
+        "Unassigned 2:17",
+    ),
+    (
+        "def f(a):\n for i in range(a):\n  x = i\n return x\n",
+        "Unassigned 4:9",
+    ),
+    (
+        "def f(a):\n for i in range(3):\n  x = i\n return x\n",
+        "Unassigned 4:9",
+    ),
     (
         "def f(a):\n for i in range(a):\n  a = x\n  x = i\n",
         "Unassigned 3:7",
@@ -140,8 +167,14 @@ static LOOPS: [(&str, &str); 20] = [
         "def f(a):\n if a:\n  x = 1\n  return x\n else:\n  return x\n",
         "Unassigned 6:10",
     ),
-    ("def f(a):\n if a:\n  return a\n else:\n  x = 1\n return x\n", "ok"),
-    ("def f(a):\n if a:\n  return 1\n else:\n  return 2\n return x\n", "ok"),
+    (
+        "def f(a):\n if a:\n  return a\n else:\n  x = 1\n return x\n",
+        "ok",
+    ),
+    (
+        "def f(a):\n if a:\n  return 1\n else:\n  return 2\n return x\n",
+        "ok",
+    ),
     (
         "def f(a):\n if a:\n  if a:\n   return 1\n  x = 1\n elif a:\n  return 1\n else:\n  x = 2\n return x\n",
         "ok",
@@ -182,7 +215,10 @@ static NAMES: [(&str, &str); 16] = [
 /// Several functions, of which the first is exported.
 static FUNCTIONS: [(&str, &str); 6] = [
     ("def f(a): return a\ndef g(a): return x\n", "ok"),
-    ("def f(a): return g(a)\ndef g(a): return x\n", "Unassigned 2:18"),
+    (
+        "def f(a): return g(a)\ndef g(a): return x\n",
+        "Unassigned 2:18",
+    ),
     (
         "def f(a): return g(a)\ndef g(a): return h(a)\ndef h(a): return x\n",
         "Unassigned 3:18",
@@ -191,7 +227,10 @@ static FUNCTIONS: [(&str, &str); 6] = [
         "def f(a): return g(a) + y\ndef g(a): return x\n",
         "Unassigned 1:25",
     ),
-    ("def f(x): return g(x)\ndef g(a): return x\n", "Unassigned 2:18"),
+    (
+        "def f(x): return g(x)\ndef g(a): return x\n",
+        "Unassigned 2:18",
+    ),
     ("def f(a): return f, g, len\ndef g(a): return x\n", "ok"),
 ];
 
@@ -227,8 +266,14 @@ fn judges_functions(rt: HostRuntime) -> Result<(), Fail> {
 fn looks_at_each_export(rt: HostRuntime) -> Result<(), Fail> {
     let alloc = rt.alloc();
     let two = "def f(a): return x\ndef g(a): return y\n".as_bytes();
-    assert_eq!(rt; shown(alloc, judged(alloc, two, &[1, 0]))?.as_str(), "Unassigned 1:18");
-    assert_eq!(rt; shown(alloc, judged(alloc, two, &[1]))?.as_str(), "Unassigned 2:18");
+    assert_eq!(rt;
+        shown(alloc, judged(alloc, two, &[1, 0]))?.as_str(),
+        "Unassigned 1:18"
+    );
+    assert_eq!(rt;
+        shown(alloc, judged(alloc, two, &[1]))?.as_str(),
+        "Unassigned 2:18"
+    );
     assert_eq!(rt; shown(alloc, judged(alloc, two, &[2]))?.as_str(), "ok");
     assert_eq!(rt; shown(alloc, judged(alloc, two, &[]))?.as_str(), "ok");
     Ok(())
@@ -249,36 +294,70 @@ fn numbered(
     Ok(out)
 }
 
+// A line at a depth.
+fn line(out: &mut String, depth: usize, text: &str) -> Result<(), AllocError> {
+    for _ in 0..depth {
+        out.push_str(" ")?;
+    }
+    out.push_str(text)?;
+    out.push_str("\n")
+}
+
 #[test]
 fn judges_many_names(rt: HostRuntime) -> Result<(), Fail> {
     let alloc = rt.alloc();
     let mut many = numbered(alloc, "def f(a):\n", " x", 20_000, " = a\n")?;
-    for _ in 0..4_000 {
+    for _ in 0..2_000 {
         many.push_str(" if a:\n  y = x7\n else:\n  y = a\n")?;
     }
-    for _ in 0..4_000 {
+    for _ in 0..2_000 {
         many.push_str(" for i in range(y):\n  z = i\n")?;
     }
-    assert_eq!(rt; shown(alloc, judged(alloc, many.as_bytes(), &[0]))?.as_str(), "ok");
+    assert_eq!(rt;
+        shown(alloc, judged(alloc, many.as_bytes(), &[0]))?.as_str(),
+        "ok"
+    );
     many.push_str(" return z\n")?;
     assert_eq!(rt;
         shown(alloc, judged(alloc, many.as_bytes(), &[0]))?.as_str(),
-        "Unassigned 44002:9"
+        "Unassigned 32002:9"
     );
     Ok(())
 }
 
-#[test]
-fn judges_many_parts(rt: HostRuntime) -> Result<(), Fail> {
-    let alloc = rt.alloc();
-    let mut many = numbered(alloc, "def f(a):\n if a:\n", "  x", 20_000, " = a\n")?;
-    for _ in 0..10_000 {
-        many.push_str(" elif a:\n  x0 = a\n")?;
+// An `if` in an `if` and so on, the innermost of which binds many names.
+fn nested(alloc: Global, levels: usize, names: usize) -> Result<String, AllocError> {
+    let mut out = String::from_str(alloc, "def f(a):\n")?;
+    for depth in 1..levels {
+        line(&mut out, depth, "if a:")?;
     }
-    many.push_str(" else:\n  return a\n a = x0\n a = x1\n")?;
+    for number in 0..names {
+        line(
+            &mut out,
+            levels,
+            format!(in alloc; "x{number} = a")?.as_str(),
+        )?;
+    }
+    for depth in 1..levels {
+        line(&mut out, levels - depth, "else:")?;
+        line(&mut out, levels - depth + 1, "x0 = a")?;
+    }
+    Ok(out)
+}
+
+#[test]
+fn judges_nested_parts(rt: HostRuntime) -> Result<(), Fail> {
+    let alloc = rt.alloc();
+    let mut deep = nested(alloc, 60, 10_000)?;
+    line(&mut deep, 1, "a = x0")?;
     assert_eq!(rt;
-        shown(alloc, judged(alloc, many.as_bytes(), &[0]))?.as_str(),
-        "Unassigned 40006:6"
+        shown(alloc, judged(alloc, deep.as_bytes(), &[0]))?.as_str(),
+        "ok"
+    );
+    line(&mut deep, 1, "a = x1")?;
+    assert_eq!(rt;
+        shown(alloc, judged(alloc, deep.as_bytes(), &[0]))?.as_str(),
+        "Unassigned 10180:6"
     );
     Ok(())
 }

@@ -103,7 +103,14 @@ fn statement<'a>(
         Stmt::Assign(target, _, value) => assignment(alloc, words, target, value, names, first),
         Stmt::Augment(target, _, _, value) => augmented(alloc, words, target, value, names, first),
         Stmt::If(arms, otherwise) => {
-            branches(alloc, words, arms.as_slice(), otherwise.as_slice(), names, first)
+            branches(
+                alloc,
+                words,
+                arms.as_slice(),
+                otherwise.as_slice(),
+                names,
+                first,
+            )
         }
         Stmt::For(_, variable, over, body) => {
             looped(alloc, words, body.as_slice(), variable, over, names, first)
