@@ -45,7 +45,7 @@ pub record Fits (w : Walk) (f : Flow) : Type 0 where
       → (x : Bytes) × (o : Choice) × (s x ≡ false) × ReadsFirst at x (w o)
   pub marks : (s : Set) (at : Loc) (x : Bytes) (o : Choice) → s x ≡ false → ReadsFirst at x (w o)
       → Among at (given (f s).1)
-  pub spares : (s : Set) (x : Bytes) → (f s).0 x ≡ false → (s x ≡ false) × ((o : Choice) × Passes x (w o))
+  pub spares : (s : Set) (x : Bytes) → (f s).0 x ≡ false → (s x ≡ false) × (o : Choice) × Passes x (w o)
   pub spared : (s : Set) (x : Bytes) (o : Choice) → s x ≡ false → Passes x (w o) → (f s).0 x ≡ false
 
 pub same_flow : (w : Walk) (f g : Flow) → ((s : Set) → f s ≡ g s) → Fits w f → Fits w g
@@ -163,7 +163,7 @@ module _ (a b : Walk) (f g : Flow) (part : Fits a f) (other : Fits b g) where
   one_marks s at x (Pick p (suc n) q) un r = given_right at (f s).1 (g s).1 (other.marks s at x q un r)
 
   one_spares : (s : Set) (x : Bytes) → ((f s).0 x ≡ false) ⊎ ((g s).0 x ≡ false)
-      → (s x ≡ false) × ((o : Choice) × Passes x (one_of a b o))
+      → (s x ≡ false) × (o : Choice) × Passes x (one_of a b o)
   one_spares s x (inl h) =
       let (un, o, pass) = part.spares s x h in
       (un, Pick o zero Any, pass)

@@ -1,5 +1,6 @@
 pub mod Weights
 pub mod Folds
+pub mod SetLaws
 pub mod Steps
 pub mod Runs
 pub mod Fits

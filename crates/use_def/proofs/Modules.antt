@@ -44,9 +44,9 @@ module _ (m : Module) (reached : List Bool) where
   here n f fs at false is h = absurd h
 
   later : (n : ℕ) (f : Function) (fs : List Function) (at : Loc) → Stands (n + 1) fs at → Stands n (f ∷ fs) at
-  later n f fs at (k, g, is, yes, h) =
+  later n f fs at (k, g, is, so, h) =
       let number : n + suc k ≡ (n + 1) + k = omega arith in
-      (suc k, g, is, ap (marked reached) number ∙ yes, h)
+      (suc k, g, is, ap (marked reached) number ∙ so, h)
 
   by_either : (n : ℕ) (f : Function) (fs : List Function) (at : Loc)
       → (Among at (given (marks_from m reached (n + 1) fs)) → Stands (n + 1) fs at)
@@ -65,18 +65,18 @@ module _ (m : Module) (reached : List Bool) where
   to_marks : (n : ℕ) (fs : List Function) (k : ℕ) (f : Function) (at : Loc) → slice_get fs k ≡ Some f
       → marked reached (n + k) ≡ true → Among at (given (function_marks m f))
       → Among at (given (marks_from m reached n fs))
-  to_marks n [] k f at is yes h = absurd cc
-  to_marks n (g ∷ gs) zero f at is yes h =
+  to_marks n [] k f at is so h = absurd cc
+  to_marks n (g ∷ gs) zero f at is so h =
       let same : g ≡ f = cc in
       let number : n ≡ n + 0 = omega arith in
       let chosen_is : chosen (marked reached n) g ≡ function_marks m f =
-      ap (λ b. chosen b g) (ap (marked reached) number ∙ yes) ∙ ap (function_marks m) same in
+      ap (λ b. chosen b g) (ap (marked reached) number ∙ so) ∙ ap (function_marks m) same in
       given_left at (chosen (marked reached n) g) (marks_from m reached (n + 1) gs)
       (subst (λ (l : List (Option Loc)). Among at (given l)) (sym chosen_is) h)
-  to_marks n (g ∷ gs) (suc k) f at is yes h =
+  to_marks n (g ∷ gs) (suc k) f at is so h =
       let number : (n + 1) + k ≡ n + suc k = omega arith in
       given_right at (chosen (marked reached n) g) (marks_from m reached (n + 1) gs)
-      (to_marks (n + 1) gs k f at is (ap (marked reached) number ∙ yes) h)
+      (to_marks (n + 1) gs k f at is (ap (marked reached) number ∙ so) h)
 
 module _ (m : Module) (exported : List ℕ) (reached : List Bool)
     (are : AreReached (own_calls m) exported reached) where
@@ -88,17 +88,20 @@ module _ (m : Module) (exported : List ℕ) (reached : List Bool)
       let less : r.number < length m.functions = there m.functions r.number r.function r.stands in
       let rows : length (own_calls m) ≡ length m.functions = rows_length (calls_in m.functions) m.functions in
       let row : r.number < length (own_calls m) = omega arith in
+      let number : 0 + r.number ≡ r.number = omega arith in
       to_marks m reached 0 m.functions r.number r.function at r.stands
-      (are.whole r.number r.reached.0 row r.reached.1) (read_marked m r.function at r.read)
+      (ap (marked reached) number ∙ are.whole r.number r.reached.0 row r.reached.1)
+      (read_marked m r.function at r.read)
 
   marked_refused : (at : Loc) → Marked at → IsRefusedAt m exported at
   marked_refused at h =
-      let (k, f, is, yes, among) = from_marks m reached 0 m.functions at h in
+      let (k, f, is, so, among) = from_marks m reached 0 m.functions at h in
+      let number : 0 + k ≡ k = omega arith in
       record {
         number = k;
         function = f;
         stands = is;
-        reached = are.sound k yes;
+        reached = are.sound k (sym (ap (marked reached) number) ∙ so);
         read = marked_read m f at among;
       }
 

@@ -46,15 +46,20 @@ module _ (m : Module) where
       (first new whole : Option Loc) → rest ≡ f ∷ more → marked reached at ≡ true
       → soonest first (marks_from m reached at rest) ≡ whole → new ≡ soonest first (function_marks m f)
       → soonest new (marks_from m reached (at + 1) more) ≡ whole
-  is_looked_at reached at rest more f first new whole here yes so_far is =
+  is_looked_at reached at rest more f first new whole here so so_far is =
       nears (function_marks m f) (marks_from m reached (at + 1) more) (marks_from m reached at rest) first new whole
       (ap (marks_from m reached at) here
-      ∙ ap (λ b. (if b then function_marks m f else []) ++ marks_from m reached (at + 1) more) yes) so_far is
+      ∙ ap (λ b. (if b then function_marks m f else []) ++ marks_from m reached (at + 1) more) so) so_far is
 
   pub is_passed_over : (reached : List Bool) (at : ℕ) (rest more : List Function) (f : Function)
       (first whole : Option Loc) → rest ≡ f ∷ more → marked reached at ≡ false
       → soonest first (marks_from m reached at rest) ≡ whole
       → soonest first (marks_from m reached (at + 1) more) ≡ whole
-  is_passed_over reached at rest more f first whole here not so_far =
+  is_passed_over reached at rest more f first whole here un so_far =
       sym (ap (soonest first) (ap (marks_from m reached at) here
-      ∙ ap (λ b. (if b then function_marks m f else []) ++ marks_from m reached (at + 1) more) not)) ∙ so_far
+      ∙ ap (λ b. (if b then function_marks m f else []) ++ marks_from m reached (at + 1) more) un)) ∙ so_far
+
+-- two parts in a row
+pub then_marks : (a b : List (Option Loc)) (first mid new : Option Loc) → mid ≡ soonest first a → new ≡ soonest mid b
+    → new ≡ soonest first (a ++ b)
+then_marks a b first mid new one two = two ∙ (ap (λ o. soonest o b) one ∙ sym (soonest_append a first b))

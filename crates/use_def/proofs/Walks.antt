@@ -26,11 +26,11 @@ use Rattle.use_def.proofs.Fits.{read_fits, bind_fits, target_fits, leave_fits}
 use Rattle.use_def.proofs.Runs.{ReadsFirst, read_is, is_read}
 
 module _ (m : Module) where
-  nodes_fit : (nodes : List Node) → Fits (λ o. flat_map (λ node. read_event m (read_at m node)) nodes)
+  nodes_fit : (nodes : List Node) → Fits (λ o. flat_map (λ node. read_event (read_at m node)) nodes)
       (λ s. (s, map (λ node. read_mark s (read_at m node)) nodes))
   nodes_fit [] = nothing_fits
   nodes_fit (node ∷ nodes) =
-      behind_fits (read_event m (read_at m node)) (λ o. flat_map (λ n. read_event m (read_at m n)) nodes)
+      behind_fits (read_event (read_at m node)) (λ o. flat_map (λ n. read_event (read_at m n)) nodes)
       (λ s. (s, read_mark s (read_at m node) ∷ [])) (λ s. (s, map (λ n. read_mark s (read_at m n)) nodes))
       (read_fits (read_at m node)) (nodes_fit nodes)
 
@@ -47,17 +47,17 @@ module _ (m : Module) where
 
   -- two expressions, and the name that is bound behind them
   assign_fits : (first second : Role) (x y : Expr) (name : Option Name)
-      → Fits (λ o. reads m first x ++ (reads m second y ++ binds m name))
+      → Fits (λ o. reads m first x ++ (reads m second y ++ binds name))
       (λ s. (with_target name s, reads_marks m s first x ++ reads_marks m s second y))
   assign_fits first second x y name =
-      same_flow (λ o. reads m first x ++ (reads m second y ++ binds m name))
+      same_flow (λ o. reads m first x ++ (reads m second y ++ binds name))
       (λ s. (with_target name s, reads_marks m s first x ++ (reads_marks m s second y ++ [])))
       (λ s. (with_target name s, reads_marks m s first x ++ reads_marks m s second y))
       (λ s. ap (λ (l : List (Option Loc)). (with_target name s, reads_marks m s first x ++ l))
       (append-nil (reads_marks m s second y)))
-      (behind_fits (reads m first x) (λ o. reads m second y ++ binds m name) (λ s. (s, reads_marks m s first x))
+      (behind_fits (reads m first x) (λ o. reads m second y ++ binds name) (λ s. (s, reads_marks m s first x))
       (λ s. (with_target name s, reads_marks m s second y ++ [])) (reads_fit first x)
-      (behind_fits (reads m second y) (λ o. binds m name) (λ s. (s, reads_marks m s second y))
+      (behind_fits (reads m second y) (λ o. binds name) (λ s. (s, reads_marks m s second y))
       (λ s. (with_target name s, [])) (reads_fit second y) (target_fits name)))
 
   return_fits : (values : List Expr) → Fits (λ o. flat_map (reads m Operand) values ++ Leaves ∷ [])

@@ -51,23 +51,23 @@ turns turn Any = []
 turns turn (Pick a zero b) = []
 turns turn (Pick a (suc n) b) = turn a ++ turns turn b
 
-module _ (m : Module) where
-  abbrev pub read_event : Option Name → List Event
-  read_event (Some name) = Reads name ∷ []
-  read_event None = []
+abbrev pub read_event : Option Name → List Event
+read_event (Some name) = Reads name ∷ []
+read_event None = []
 
+abbrev pub binds : Option Name → List Event
+binds (Some name) = Binds name ∷ []
+binds None = []
+
+module _ (m : Module) where
   -- What an expression reads, which is on the longest way through it, that skips no operand of `and` and `or`. An
   -- expression binds no name, so each other way reads some of these names under the same circumstances.
   abbrev pub reads : Role → Expr → List Event
   reads role x = flat_map (λ node. read_event (read_at m node)) (expr_nodes role x)
 
-  abbrev pub binds : Option Name → List Event
-  binds (Some name) = Binds name ∷ []
-  binds None = []
-
   -- each condition is read where those before it don't hold
   abbrev pub branches : List (Loc × Expr × List Walk) → Walk → Walk
-  branches [] other = other
+  branches [] other o = other o
   branches (arm ∷ arms) other o = reads Operand arm.1 ++ one_of (in_order arm.2) (branches arms other) o
 
   -- the paths of a statement, from those of the statements of its blocks

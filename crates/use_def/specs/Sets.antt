@@ -20,6 +20,10 @@ without texts s text = s text && not (is_one_of texts text)
 abbrev pub with_texts : List Bytes → Set → Set
 with_texts texts s text = s text || is_one_of texts text
 
+-- the set with this text, where it is to be so
+abbrev pub with_one : Bytes → Bool → Set → Set
+with_one text so s other = s other || (so && bytes_eq text other)
+
 -- the set with another answer for one text
 abbrev pub changed : Bytes → Bool → Set → Set
 changed text value s other = if bytes_eq text other then value else s other

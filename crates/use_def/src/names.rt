@@ -115,8 +115,8 @@ fn unmark<'a>(names: &mut Names<'a>, texts: &[&'a [u8]]) -> Result<(), AllocErro
 /// Ends a block, and takes back what was bound in it.
 pub fn end_block<'a>(names: &mut Names<'a>, outer: Outer<'a>) -> Result<(), AllocError>
     ensures marks { OnOk result (spec.marked names.new ≡ spec.outside names.old) }
-    ensures fresh { OnOk result (names.new.fresh.items ≡ outer.fresh.items) }
-    ensures ended { OnOk result (names.new.ended ≡ outer.ended) }
+    ensures fresh { OnOk result (names.new.fresh.items ≡ outer.entry.fresh.items) }
+    ensures ended { OnOk result (names.new.ended ≡ outer.entry.ended) }
 {
     names.ended = outer.ended;
     let fresh = mem::replace(&mut names.fresh, outer.fresh);
@@ -130,22 +130,50 @@ pub fn no_parts<'a>() -> Common<'a>
     Common { texts: None }
 }
 
+/// Adds a text, where it is marked.
+fn push_marked<'a>(
+    names: &Names<'a>,
+    text: &'a [u8],
+    out: &mut Vec<&'a [u8]>,
+) -> Result<(), AllocError>
+    ensures { OnOk result (spec.is_one_of (map (λ t. t.now) out.new.items) ≡ spec.with_one text.now
+        (spec.marked names.now text.now) (spec.is_one_of (map (λ t. t.now) out.old.items))) }
+{
+    if is_marked(names, text) {
+        out.push(text)?;
+    }
+    Ok(())
+}
+
 /// Those of these texts that are marked.
 fn marked_of<'a>(
     alloc: Global,
     names: &Names<'a>,
     texts: &[&'a [u8]],
 ) -> Result<Vec<&'a [u8]>, AllocError>
-    ensures { IfOk result (λ marked. spec.is_one_of (map (λ t. t.now) marked.items)
+    ensures { IfOk result (λ kept. spec.is_one_of (map (λ t. t.now) kept.items)
         ≡ both (spec.is_one_of (map (λ t. t.now) texts.now)) (spec.marked names.now)) }
 {
-    let mut marked = Vec::new(alloc);
+    let mut kept = Vec::new(alloc);
     for text in texts {
-        if is_marked(names, *text) {
-            marked.push(*text)?;
-        }
+        push_marked(names, *text, &mut kept)?;
     }
-    Ok(marked)
+    Ok(kept)
+}
+
+/// What parts have in common with one more.
+fn kept<'a>(
+    alloc: Global,
+    names: &Names<'a>,
+    common: &Common<'a>,
+) -> Result<Vec<&'a [u8]>, AllocError>
+    ensures { IfOk result (λ texts. spec.with_texts (map (λ t. t.now) texts.items) (spec.outside names.now)
+        ≡ both (spec.common_set (spec.outside names.now) common.now) (spec.marked names.now)) }
+{
+    match &common.texts {
+        None => marked_of(alloc, names, names.fresh.as_slice()),
+        Some(texts) => marked_of(alloc, names, texts.as_slice()),
+    }
 }
 
 /// Adds a part that ends here.
@@ -153,14 +181,9 @@ pub fn meet<'a>(alloc: Global, names: &Names<'a>, common: &mut Common<'a>) -> Re
     ensures { OnOk result (spec.common_set (spec.outside names.now) common.new
         ≡ both (spec.common_set (spec.outside names.now) common.old) (spec.assigned names.now)) }
 {
-    if names.ended {
-        return Ok(());
+    if !names.ended {
+        common.texts = Some(kept(alloc, names, common)?);
     }
-    let texts = match &common.texts {
-        None => marked_of(alloc, names, names.fresh.as_slice())?,
-        Some(texts) => marked_of(alloc, names, texts.as_slice())?,
-    };
-    common.texts = Some(texts);
     Ok(())
 }
 

@@ -31,21 +31,21 @@ fn first_of(alloc: Global, tree: &Module, reached: &[bool]) -> Result<Option<Loc
 /// Tests the rule Unassigned alone, for a module and the numbers of its exported functions in the order of the text.
 ///
 /// A read is refused where some path through its function leaves the name unassigned, and the function is exported, or
-/// an exported one reaches it by calls. An `if` has a path through each of its parts and one past them, whatever its
-/// condition is; a loop may be skipped, or run any number of turns, and each binds the variable anew; a `return` ends a
-/// path. The names of functions, imports and what is built in are never refused. The answer is yes exactly where no
-/// read is refused; [`Stop::Refused`] by `Rule::Unassigned` at the first one in the text that is; or
-/// [`Stop::Memory`].
+/// an exported one reaches it by calls. An `if` has a path through each of its parts, and one past them where there is
+/// no `else`, whatever its condition is; a loop may be skipped, or run any number of turns, and each binds the variable
+/// anew; a `return` ends a path. The names of functions, imports and what is built in are never refused. The answer is
+/// yes exactly where no read is refused; [`Stop::Refused`] by `Rule::Unassigned` at the first one in the text that is;
+/// or [`Stop::Memory`].
 ///
 /// Takes time linear in the tree, but for the maps of names.
-pub fn assigned(alloc: Global, module: &Module, exported: &[usize]) -> Result<(), Stop>
-    ensures ok { OnOk result (spec.IsAccepted module.now exported.now) }
-    ensures refused { IfErr result (spec.Refuses module.now exported.now) }
-    ensures only { spec.IsAccepted module.now exported.now → IsOnlyYes result }
-    ensures place { (at : Loc) → spec.IsFirst module.now exported.now at → IsOnlyAt Rule.Unassigned at result }
+pub fn assigned(alloc: Global, tree: &Module, exported: &[usize]) -> Result<(), Stop>
+    ensures ok { OnOk result (spec.IsAccepted tree.now exported.now) }
+    ensures refused { IfErr result (spec.Refuses tree.now exported.now) }
+    ensures only { spec.IsAccepted tree.now exported.now → IsOnlyYes result }
+    ensures place { (at : Loc) → spec.IsFirst tree.now exported.now at → IsOnlyAt Rule.Unassigned at result }
 {
-    let rows = own_calls(alloc, module)?;
+    let rows = own_calls(alloc, tree)?;
     let marks = reached(alloc, rows.as_slice(), exported)?;
-    let first = first_of(alloc, module, marks.as_slice())?;
+    let first = first_of(alloc, tree, marks.as_slice())?;
     answer_first(Rule::Unassigned, first)
 }
