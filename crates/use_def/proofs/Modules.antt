@@ -13,7 +13,7 @@ use Rattle.call_chains.specs.Calls.{own_calls, calls_in}
 use Rattle.call_chains.specs.Sets.{marked, AreReached}
 use Rattle.py_parse.specs.declared.tree.Function.{Function}
 use Rattle.py_parse.specs.declared.tree.Module.{Module}
-use Rattle.use_def.specs.Flows.{function_marks, marks_from, all_marks}
+use Rattle.use_def.specs.Flows.{function_marks, marks_where, marks_from, all_marks}
 use Rattle.use_def.specs.Unassigned.{IsReadUnassigned, IsRefusedAt, IsAccepted, IsFirst, Refuses}
 use Rattle.use_def.proofs.Fits.{given_left, given_right, given_split}
 use Rattle.use_def.proofs.Walks.{read_marked, marked_read}
@@ -33,11 +33,8 @@ module _ (m : Module) (reached : List Bool) where
   Stands n fs at = (k : ℕ) × (f : Function) × (slice_get fs k ≡ Some f) × (marked reached (n + k) ≡ true)
       × Among at (given (function_marks m f))
 
-  abbrev chosen : Bool → Function → List (Option Loc)
-  chosen b f = if b then function_marks m f else []
-
   here : (n : ℕ) (f : Function) (fs : List Function) (at : Loc) (b : Bool) → marked reached n ≡ b
-      → Among at (given (chosen b f)) → Stands n (f ∷ fs) at
+      → Among at (given (marks_where m b f)) → Stands n (f ∷ fs) at
   here n f fs at true is h =
       let number : n + 0 ≡ n = omega arith in
       (0, f, refl, ap (marked reached) number ∙ is, h)
@@ -50,7 +47,7 @@ module _ (m : Module) (reached : List Bool) where
 
   by_either : (n : ℕ) (f : Function) (fs : List Function) (at : Loc)
       → (Among at (given (marks_from m reached (n + 1) fs)) → Stands (n + 1) fs at)
-      → Among at (given (chosen (marked reached n) f)) ⊎ Among at (given (marks_from m reached (n + 1) fs))
+      → Among at (given (marks_where m (marked reached n) f)) ⊎ Among at (given (marks_from m reached (n + 1) fs))
       → Stands n (f ∷ fs) at
   by_either n f fs at rest (inl h) = here n f fs at (marked reached n) refl h
   by_either n f fs at rest (inr h) = later n f fs at (rest h)
@@ -60,7 +57,7 @@ module _ (m : Module) (reached : List Bool) where
   from_marks n [] at h = absurd h
   from_marks n (f ∷ fs) at h =
       by_either n f fs at (from_marks (n + 1) fs at)
-      (given_split at (chosen (marked reached n) f) (marks_from m reached (n + 1) fs) h)
+      (given_split at (marks_where m (marked reached n) f) (marks_from m reached (n + 1) fs) h)
 
   to_marks : (n : ℕ) (fs : List Function) (k : ℕ) (f : Function) (at : Loc) → slice_get fs k ≡ Some f
       → marked reached (n + k) ≡ true → Among at (given (function_marks m f))
@@ -69,13 +66,13 @@ module _ (m : Module) (reached : List Bool) where
   to_marks n (g ∷ gs) zero f at is so h =
       let same : g ≡ f = cc in
       let number : n ≡ n + 0 = omega arith in
-      let chosen_is : chosen (marked reached n) g ≡ function_marks m f =
-      ap (λ b. chosen b g) (ap (marked reached) number ∙ so) ∙ ap (function_marks m) same in
-      given_left at (chosen (marked reached n) g) (marks_from m reached (n + 1) gs)
+      let chosen_is : marks_where m (marked reached n) g ≡ function_marks m f =
+      ap (λ b. marks_where m b g) (ap (marked reached) number ∙ so) ∙ ap (function_marks m) same in
+      given_left at (marks_where m (marked reached n) g) (marks_from m reached (n + 1) gs)
       (subst (λ (l : List (Option Loc)). Among at (given l)) (sym chosen_is) h)
   to_marks n (g ∷ gs) (suc k) f at is so h =
       let number : (n + 1) + k ≡ n + suc k = omega arith in
-      given_right at (chosen (marked reached n) g) (marks_from m reached (n + 1) gs)
+      given_right at (marks_where m (marked reached n) g) (marks_from m reached (n + 1) gs)
       (to_marks (n + 1) gs k f at is (ap (marked reached) number ∙ so) h)
 
 module _ (m : Module) (exported : List ℕ) (reached : List Bool)

@@ -6,10 +6,14 @@ use Rattle.std.proofs.lemmas.List.{take_more}
 use Rattle.std.proofs.lemmas.List.Folds.{list_any-append}
 use Rattle.std.proofs.lemmas.Slice.Eq.{bytes_eq-Decides}
 use Rattle.std.specs.Borrow.{Bor}
+use Rattle.std.specs.Option.{option_map}
 use Rattle.std.specs.Str.{bytes_eq}
 use Rattle.module_names.specs.Words.{Bytes}
 use Rattle.use_def.specs.Flows.{Set, everything, both, with_text}
-use Rattle.use_def.specs.Sets.{is_one_of, without, with_texts, with_one, changed}
+use Rattle.use_def.specs.Sets.{is_one_of, without, with_texts, with_one, changed, marked, assigned, outside, fresh}
+use Rattle.use_def.specs.Sets.{AreBack, common_set, common_texts, set_of}
+use Rattle.use_def.specs.declared.names.Common.{Common}
+use Rattle.use_def.specs.declared.names.Names.{Names}
 
 -- the texts behind references
 abbrev pub seen : List (Bor Bytes) → List Bytes
@@ -188,3 +192,38 @@ met_ended c m ended is t = and_true (c t) ∙ sym (ap (λ b. c t && b) (or_left 
 
 pub met_going : (c m : Set) (ended : Bool) → ended ≡ false → (t : Bytes) → both c m t ≡ both c (λ u. ended || m u) t
 met_going c m ended is t = sym (ap (λ b. c t && (b || m t)) is)
+
+pub not_either : (r e m : Bool) → not r ≡ true → r ≡ (e || m) → m ≡ false
+not_either true e m h is = absurd cc
+not_either false true m h is = absurd cc
+not_either false false m h is = sym is
+
+pub not_true : (b : Bool) → not b ≡ true → b ≡ false
+not_true true h = absurd cc
+not_true false h = refl
+
+-- ---- names that are what they were
+
+pub back_assigned : (old new : Names) → AreBack old new → assigned new ≡ assigned old
+back_assigned old new back =
+    ap (λ (b : Bool). λ (t : Bytes). b || marked new t) back.ended
+    ∙ ap (λ (s : Set). λ (t : Bytes). old.ended || s t) back.marks
+
+pub back_then : (a b c : Names) → AreBack a b → AreBack b c → AreBack a c
+back_then a b c one two = record {
+  marks = two.marks ∙ one.marks;
+  fresh = two.fresh ∙ one.fresh;
+  ended = two.ended ∙ one.ended;
+}
+
+-- ---- what parts have in common
+
+pub common_none : (s : Set) (common : Common) → common.texts ≡ None → common_set s common ≡ everything
+common_none s common is = ap (λ o. set_of s (option_map (λ texts. seen texts.items) o)) is
+
+and_assoc : (a b c : Bool) → ((a && b) && c) ≡ (a && (b && c))
+and_assoc true b c = refl
+and_assoc false b c = refl
+
+pub both_assoc : (a b c : Set) → both (both a b) c ≡ both a (both b c)
+both_assoc a b c = fun_ext (λ t. and_assoc (a t) (b t) (c t))

@@ -99,10 +99,12 @@ module _ (m : Module) where
   abbrev pub function_marks : Function → List (Option Loc)
   function_marks f = (block_flow f.body (with_params f.params nothing)).1
 
+  abbrev pub marks_where : Bool → Function → List (Option Loc)
+  marks_where looked f = if looked then function_marks f else []
+
   abbrev pub marks_from : List Bool → ℕ → List Function → List (Option Loc)
   marks_from reached n [] = []
-  marks_from reached n (f ∷ fs) =
-      (if marked reached n then function_marks f else []) ++ marks_from reached (n + 1) fs
+  marks_from reached n (f ∷ fs) = marks_where (marked reached n) f ++ marks_from reached (n + 1) fs
 
   abbrev pub all_marks : List Bool → List (Option Loc)
   all_marks reached = marks_from reached 0 m.functions

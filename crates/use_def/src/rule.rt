@@ -3,15 +3,39 @@
 ghost use Rattle.std.specs.Prelude.{◌≡◌, IfOk, IfErr, OnOk, None};
 ghost use Rattle.krn_base.specs.declared.place.Loc.{Loc};
 ghost use Rattle.module_names.specs.Places.{IsOnlyYes, IsOnlyAt, soonest};
-ghost use Rattle.use_def.specs.Flows.{all_marks};
+ghost use Rattle.call_chains.specs.Sets.{marked};
+ghost use Rattle.use_def.specs.Flows.{all_marks, marks_where};
 ghost use Rattle.use_def.specs.Unassigned as spec;
 
 use crate::walk::in_function;
 use call_chains::{own_calls, reached};
 use krn_base::{Loc, Rule, Stop};
-use module_names::{answer_first, words_of};
-use py_parse::Module;
+use module_names::{Words, answer_first, words_of};
+use py_parse::{Function, Module};
 use std::alloc::{AllocError, Global};
+
+fn is_marked(marks: &[bool], number: usize) -> bool
+    ensures { result ≡ marked marks.now number }
+{
+    number < marks.len() && marks[number]
+}
+
+/// The first of the reads so far of unassigned names, with those of a function that is looked at.
+fn with_function(
+    alloc: Global,
+    words: &Words<'_>,
+    function: &Function,
+    looked: bool,
+    first: Option<Loc>,
+) -> Result<Option<Loc>, AllocError>
+    ensures { IfOk result (λ least. least ≡ soonest first (marks_where words.now.tree.now looked function.now)) }
+{
+    if looked {
+        in_function(alloc, words, function, first)
+    } else {
+        Ok(first)
+    }
+}
 
 /// The first read of an unassigned name in the functions that are reached.
 fn first_of(alloc: Global, tree: &Module, reached: &[bool]) -> Result<Option<Loc>, AllocError>
@@ -21,9 +45,7 @@ fn first_of(alloc: Global, tree: &Module, reached: &[bool]) -> Result<Option<Loc
     let functions = tree.functions.as_slice();
     let mut first = None;
     for at in 0..functions.len() {
-        if at < reached.len() && reached[at] {
-            first = in_function(alloc, &words, &functions[at], first)?;
-        }
+        first = with_function(alloc, &words, &functions[at], is_marked(reached, at), first)?;
     }
     Ok(first)
 }

@@ -1,8 +1,15 @@
 use Rattle.std.proofs.Common.{◌≡◌, ◌+◌, ◌<◌, ◌≤◌, ◌∙◌, ap, ap₂, sym, length, arith}
-use Rattle.use_def.proofs.Steps.{item_here, row_marks, row_set}
+use Rattle.std.proofs.Common.{subst}
+use Rattle.std.specs.Result.{OnOk, IfOk}
+use Rattle.module_names.specs.Nodes.{Operand}
+use Rattle.module_names.specs.Places.{soonest}
+use Rattle.use_def.proofs.Folds.{fold_for}
+use Rattle.use_def.proofs.SetLaws.{back_assigned, back_then}
+use Rattle.use_def.proofs.Steps.{item_here, row_marks, row_set, arms_marks, arms_common, on_ok_more, if_flow}
 use Rattle.use_def.proofs.Weights.{weight, block_weight, arms_weight, arm_weight, stmt_below, arm_below}
 use Rattle.use_def.proofs.Weights.{weight_if, weight_for}
-use Rattle.use_def.specs.Sets.{assigned}
+use Rattle.use_def.specs.Flows.{Flow, both, flow, flow_step, block_flow, reads_marks}
+use Rattle.use_def.specs.Sets.{assigned, marked, common_set}
 use Rattle.use_def.proofs.walk.+statements.Goals as goal
 
 pub block-statement-requires : goal.block-statement-requires
@@ -44,7 +51,33 @@ block-loop-s-preserved t c =
     }
 
 pub branches-loop-arm-preserved : goal.branches-loop-arm-preserved
-branches-loop-arm-preserved t c = ?
+branches-loop-arm-preserved t c =
+    let i = c.loop-arm.arm-index in
+    let arms = c.args.arms.now in
+    let at : i < length arms = omega arith in
+    let arm = c.arm-item.result in
+    let here = item_here arms i arm at c.arm-item.is in
+    let m = c.args.words.now.tree.now in
+    let old = c.args.names.now in
+    let now = c.loop-arm.names in
+    let other = block_flow m c.args.otherwise.now in
+    let back = c.loop-arm.invariant.back in
+    let same : assigned now ≡ assigned old = back_assigned old now back in
+    record {
+      first = arms_marks m other (assigned old) _ _ arm c.loop-arm.first c.in_ok-first.first c.in_ok-first-2.first _ here
+          c.loop-arm.invariant.first
+          (c.in_ok-first.ensures ∙ ap (λ s. soonest c.loop-arm.first (reads_marks m s Operand arm.1)) same)
+          (c.in_ok-first-2.ensures.first
+          ∙ ap₂ (λ b s. soonest c.in_ok-first.first (block_flow m b s).1) c.as_slice.ensures same);
+      common = arms_common m other (assigned old) _ _ arm (common_set (marked old) c.loop-arm.common)
+          (common_set (marked old) c.part.new.common) _ here c.loop-arm.invariant.common
+          (sym (ap (λ s. common_set s c.part.new.common) back.marks)
+          ∙ (c.in_ok-first-2.ensures.common
+          ∙ (ap (λ s. both (common_set s c.loop-arm.common) (block_flow m c.as_slice.result.now (assigned now)).0)
+          back.marks
+          ∙ ap₂ (λ b s. both (common_set (marked old) c.loop-arm.common) (block_flow m b s).0) c.as_slice.ensures same)));
+      back = back_then old now c.part.new.names back c.in_ok-first-2.ensures.back;
+    }
 
 pub branches-returns-clause-first : goal.branches-returns-clause-first
 branches-returns-clause-first t c = ?
@@ -53,10 +86,24 @@ pub branches-returns-clause-assigned : goal.branches-returns-clause-assigned
 branches-returns-clause-assigned t c = ?
 
 pub statement-returns-in-If-clause-first : goal.statement-returns-in-If-clause-first
-statement-returns-in-If-clause-first t c = ?
+statement-returns-in-If-clause-first t c =
+    subst (λ (f : Flow). IfOk c.branches.result (λ least. least
+    ≡ soonest c.args.first (f (assigned c.args.names.now)).1)) (sym (if_flow c.args.words.now.tree.now
+    c.args.statement.now _ _ _ _ c.in-If.is c.as_slice-in-If.ensures c.as_slice-in-If-2.ensures))
+    c.branches.ensures.first
 
 pub statement-returns-in-If-clause-assigned : goal.statement-returns-in-If-clause-assigned
-statement-returns-in-If-clause-assigned t c = ?
+statement-returns-in-If-clause-assigned t c =
+    subst (λ (f : Flow). OnOk c.branches.result (assigned c.branches.new.names
+    ≡ (f (assigned c.args.names.now)).0)) (sym (if_flow c.args.words.now.tree.now
+    c.args.statement.now _ _ _ _ c.in-If.is c.as_slice-in-If.ensures c.as_slice-in-If-2.ensures))
+    c.branches.ensures.assigned
 
 pub statement-returns-in-For-clause-assigned : goal.statement-returns-in-For-clause-assigned
-statement-returns-in-For-clause-assigned t c = ?
+statement-returns-in-For-clause-assigned t c =
+    let m = c.args.words.now.tree.now in
+    let old = c.args.names.now in
+    let stays : (flow m c.args.statement.now (assigned old)).0 ≡ assigned old =
+    ap (λ x. (flow m x (assigned old)).0) c.in-For.is
+    ∙ ap (λ (f : Flow). (f (assigned old)).0) (fold_for Flow (flow_step m) _ _ _ _) in
+    on_ok_more c.looped.result _ _ (λ back. back_assigned old c.looped.new.names back ∙ sym stays) c.looped.ensures.back
