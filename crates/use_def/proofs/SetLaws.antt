@@ -193,14 +193,9 @@ met_ended c m ended is t = and_true (c t) ∙ sym (ap (λ b. c t && b) (or_left 
 pub met_going : (c m : Set) (ended : Bool) → ended ≡ false → (t : Bytes) → both c m t ≡ both c (λ u. ended || m u) t
 met_going c m ended is t = sym (ap (λ b. c t && (b || m t)) is)
 
-pub not_either : (r e m : Bool) → not r ≡ true → r ≡ (e || m) → m ≡ false
-not_either true e m h is = absurd cc
-not_either false true m h is = absurd cc
-not_either false false m h is = sym is
-
-pub not_true : (b : Bool) → not b ≡ true → b ≡ false
-not_true true h = absurd cc
-not_true false h = refl
+pub not_either : (r e m : Bool) → r ≡ false → r ≡ (e || m) → m ≡ false
+not_either r true m h is = absurd cc
+not_either r false m h is = sym is ∙ h
 
 -- ---- names that are what they were
 

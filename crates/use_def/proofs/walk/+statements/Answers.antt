@@ -1,14 +1,17 @@
 use Rattle.std.proofs.Common.{◌≡◌, ◌+◌, ◌<◌, ◌≤◌, ◌∙◌, ap, ap₂, sym, length, arith}
-use Rattle.std.proofs.Common.{subst}
+use Rattle.std.proofs.Common.{subst, drop, map, []}
+use Rattle.std.proofs.lemmas.List.{drop_all}
 use Rattle.std.specs.Result.{OnOk, IfOk}
-use Rattle.module_names.specs.Nodes.{Operand}
+use Rattle.module_names.specs.Nodes.{Operand, Iterated}
 use Rattle.module_names.specs.Places.{soonest}
 use Rattle.use_def.proofs.Folds.{fold_for}
 use Rattle.use_def.proofs.SetLaws.{back_assigned, back_then}
 use Rattle.use_def.proofs.Steps.{item_here, row_marks, row_set, arms_marks, arms_common, on_ok_more, if_flow}
+use Rattle.use_def.proofs.Steps.{then_marks}
 use Rattle.use_def.proofs.Weights.{weight, block_weight, arms_weight, arm_weight, stmt_below, arm_below}
 use Rattle.use_def.proofs.Weights.{weight_if, weight_for}
-use Rattle.use_def.specs.Flows.{Flow, both, flow, flow_step, block_flow, reads_marks}
+use Rattle.use_def.specs.Flows.{Flow, both, flow, flow_step, block_flow, reads_marks, parts, arm_flows, with_name}
+use Rattle.use_def.specs.Flows.{with_text}
 use Rattle.use_def.specs.Sets.{assigned, marked, common_set}
 use Rattle.use_def.proofs.walk.+statements.Goals as goal
 
@@ -80,10 +83,46 @@ branches-loop-arm-preserved t c =
     }
 
 pub branches-returns-clause-first : goal.branches-returns-clause-first
-branches-returns-clause-first t c = ?
+branches-returns-clause-first t c =
+    let m = c.args.words.now.tree.now in
+    let arms = c.args.arms.now in
+    let old = c.args.names.now in
+    let end : length arms ≤ c.loop-arm.arm-index = omega arith in
+    let none : drop c.loop-arm.arm-index arms ≡ [] = drop_all c.loop-arm.arm-index arms end in
+    let other = block_flow m c.args.otherwise.now in
+    c.in_ok-first-3.ensures.first
+    ∙ (ap (λ s. soonest c.loop-arm.first (other s).1) (back_assigned old c.loop-arm.names c.loop-arm.invariant.back)
+    ∙ (sym (ap (λ l. soonest c.loop-arm.first (parts m (map (arm_flows m) l) other (assigned old)).1) none)
+    ∙ c.loop-arm.invariant.first))
 
 pub branches-returns-clause-assigned : goal.branches-returns-clause-assigned
-branches-returns-clause-assigned t c = ?
+branches-returns-clause-assigned t c =
+    let m = c.args.words.now.tree.now in
+    let arms = c.args.arms.now in
+    let old = c.args.names.now in
+    let now = c.loop-arm.names in
+    let common = c.loop-arm.common in
+    let end : length arms ≤ c.loop-arm.arm-index = omega arith in
+    let none : drop c.loop-arm.arm-index arms ≡ [] = drop_all c.loop-arm.arm-index arms end in
+    let other = block_flow m c.args.otherwise.now in
+    let back = c.loop-arm.invariant.back in
+    c.in_ok-join.ensures.assigned
+    ∙ (ap (λ s. common_set s c.part-2.new.common) c.in_ok-first-3.ensures.back.marks
+    ∙ (c.in_ok-first-3.ensures.common
+    ∙ (ap₂ (λ s u. both (common_set s common) (other u).0) back.marks (back_assigned old now back)
+    ∙ (sym (ap (λ l. both (common_set (marked old) common) (parts m (map (arm_flows m) l) other (assigned old)).0) none)
+    ∙ c.loop-arm.invariant.common))))
+
+pub looped-returns-clause-first : goal.looped-returns-clause-first
+looped-returns-clause-first t c =
+    let m = c.args.words.now.tree.now in
+    let old = assigned c.args.names.now in
+    let bound : assigned c.bind.new.names ≡ with_name c.args.variable.now old =
+    c.in_ok-bind.ensures.assigned ∙ ap₂ with_text c.as_slice.ensures c.begin_block-outer.ensures.assigned in
+    then_marks (reads_marks m old Iterated c.args.over.now) (block_flow m c.args.body.now
+    (with_name c.args.variable.now old)).1 c.args.first c.in_ok-first.first c.in_ok-first-2.first
+    c.in_ok-first.ensures
+    (c.in_ok-first-2.ensures.first ∙ ap (λ s. soonest c.in_ok-first.first (block_flow m c.args.body.now s).1) bound)
 
 pub statement-returns-in-If-clause-first : goal.statement-returns-in-If-clause-first
 statement-returns-in-If-clause-first t c =
