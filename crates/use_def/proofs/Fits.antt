@@ -1,14 +1,14 @@
 -- Sets of names against paths: a walk fits a flow where the flow marks exactly the reads that some path makes of a name
 -- outside the set, and leaves outside exactly what some path to the end does.
 use mathlib.Core.Path.{fun_ext}
-use Rattle.std.proofs.Common.{◌≡◌, ℕ, zero, suc, Bool, true, false, not, ◌&&◌, ◌||◌, ◌⊎◌, inl, inr, List, [], ◌∷◌, ◌++◌}
-use Rattle.std.proofs.Common.{Option, Some, None, refl, ap, sym, ◌∙◌, subst, map, flat_map, append-nil}
+use Rattle.std.proofs.Common.{◌≡◌, zero, suc, Bool, true, false, not, ◌&&◌, ◌||◌, ◌⊎◌, inl, inr, List, [], ◌∷◌, ◌++◌}
+use Rattle.std.proofs.Common.{Option, Some, None, refl, ap, sym, ◌∙◌, subst}
 use Rattle.std.specs.Str.{bytes_eq}
 use Rattle.krn_base.specs.declared.place.Loc.{Loc}
 use Rattle.module_names.specs.Places.{given, Among, mark}
 use Rattle.module_names.specs.Words.{Bytes}
 use Rattle.py_parse.specs.declared.tree.Name.{Name}
-use Rattle.use_def.specs.Flows.{Set, Flow, everything, with_name, with_target, both, read_mark, in_row}
+use Rattle.use_def.specs.Flows.{Set, Flow, everything, with_name, with_target, both, read_mark}
 use Rattle.use_def.specs.Paths.{Event, Reads, Binds, Leaves, Choice, Any, Pick, Walk, left, right, in_order, one_of}
 use Rattle.use_def.specs.Paths.{turns, read_event, binds}
 use Rattle.use_def.proofs.Runs.{ReadsFirst, Passes, read_left, read_right, read_split, pass_join, pass_split}

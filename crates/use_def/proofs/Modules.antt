@@ -1,7 +1,8 @@
 -- The marks of the functions that are reached are exactly the places at which the rule refuses a module.
-use Rattle.std.proofs.Common.{◌≡◌, ℕ, zero, suc, ◌+◌, ◌<◌, Bool, true, false, if◌then◌else◌, ◌⊎◌, inl, inr}
-use Rattle.std.proofs.Common.{List, [], ◌∷◌, ◌++◌, Option, Some, None, Result, Ok, Err, refl, ap, sym, ◌∙◌, subst}
+use Rattle.std.proofs.Common.{◌≡◌, ℕ, zero, suc, ◌+◌, ◌<◌, Bool, true, false, ◌⊎◌, inl, inr}
+use Rattle.std.proofs.Common.{List, [], ◌∷◌, ◌++◌, Option, Some, Result, Ok, Err, refl, ap, sym, ◌∙◌, subst}
 use Rattle.std.proofs.Common.{length, map, slice_get, arith}
+use Rattle.std.specs.List.{list_any}
 use Rattle.std.specs.Result.{OnOk, IfErr}
 use Rattle.krn_base.specs.declared.place.Loc.{Loc}
 use Rattle.krn_base.specs.declared.refusal.Rule.TheVariants.{Unassigned}
@@ -10,11 +11,14 @@ use Rattle.krn_base.specs.declared.refusal.Stop.TheVariants as stop
 use Rattle.module_names.specs.Places as places
 use Rattle.module_names.specs.Places.{given, Among, is_before, RefusesAt}
 use Rattle.call_chains.specs.Calls.{own_calls, calls_in}
+use Rattle.call_chains.specs.Chains.{Reaches}
 use Rattle.call_chains.specs.Sets.{marked, AreReached}
 use Rattle.py_parse.specs.declared.tree.Function.{Function}
 use Rattle.py_parse.specs.declared.tree.Module.{Module}
+use Rattle.py_parse.specs.declared.tree.Name.{Name}
 use Rattle.use_def.specs.Flows.{function_marks, marks_where, marks_from, all_marks}
-use Rattle.use_def.specs.Unassigned.{IsReadUnassigned, IsRefusedAt, IsAccepted, IsFirst, Refuses}
+use Rattle.use_def.specs.Paths.{Event, Reads, Choice, path}
+use Rattle.use_def.specs.Unassigned.{IsRefusedAt, IsAccepted, IsFirst, Refuses, AreReadsSettled, settles}
 use Rattle.use_def.proofs.Fits.{given_left, given_right, given_split}
 use Rattle.use_def.proofs.Walks.{read_marked, marked_read}
 
@@ -136,3 +140,36 @@ module _ (m : Module) (exported : List ℕ) (reached : List Bool)
   refused_clause (Ok x) is = tt
   refused_clause (Err stop.Memory) is = tt
   refused_clause (Err (stop.Refused r)) is = (is.0, is_first r.loc is.1)
+
+-- ---- the other words
+
+settled_by : (m : Module) (exported : List ℕ) (number : ℕ) (f : Function) (o : Choice) (before after : List Event)
+    (name : Name) (b : Bool) → IsAccepted m exported → slice_get m.functions number ≡ Some f
+    → Reaches (own_calls m) exported number → path m f o ≡ before ++ Reads name ∷ after
+    → list_any (settles name.text) before ≡ b → b ≡ true
+settled_by m exported number f o before after name true accepted is reached parts e = refl
+settled_by m exported number f o before after name false accepted is reached parts e =
+    absurd (accepted name.loc (record {
+      number = number;
+      function = f;
+      stands = is;
+      reached = reached;
+      read = record {
+        choice = o;
+        read = record {
+          before = before;
+          name = name;
+          after = after;
+          parts = parts;
+          place = refl;
+          unsettled = e;
+        };
+      };
+    }))
+
+pub settled_clause : (m : Module) (exported : List ℕ) (result : Result (Unit {0}) Stop)
+    → OnOk result (IsAccepted m exported) → OnOk result (AreReadsSettled m exported)
+settled_clause m exported (Ok x) accepted = λ number f o before after name is reached parts.
+    settled_by m exported number f o before after name (list_any (settles name.text) before) accepted is reached parts
+    refl
+settled_clause m exported (Err e) accepted = tt

@@ -4,7 +4,6 @@ use Rattle.std.proofs.Common.{subst}
 use Rattle.std.specs.List.{list_any}
 use Rattle.krn_base.specs.declared.place.Loc.{Loc}
 use Rattle.module_names.specs.Words.{Bytes}
-use Rattle.py_parse.specs.declared.tree.Name.{Name}
 use Rattle.use_def.specs.Paths.{Event, Reads, Binds, Leaves}
 use Rattle.use_def.specs.Unassigned.{settles, ReadsUnassigned}
 

@@ -1,7 +1,7 @@
 -- Sets of names under the changes that the walk makes to them.
 use mathlib.Core.Path.{fun_ext}
 use Rattle.std.proofs.Common.{◌≡◌, ℕ, ◌+◌, ◌<◌, Bool, true, false, cond, not, ◌&&◌, ◌||◌, List, [], ◌∷◌, ◌++◌, length}
-use Rattle.std.proofs.Common.{take, get_or, map, Option, Some, None, unwrap_or, refl, ap, sym, ◌∙◌, subst}
+use Rattle.std.proofs.Common.{take, get_or, map, Option, Some, None, unwrap_or, refl, ap, sym, ◌∙◌}
 use Rattle.std.proofs.lemmas.List.{take_more}
 use Rattle.std.proofs.lemmas.List.Folds.{list_any-append}
 use Rattle.std.proofs.lemmas.Slice.Eq.{bytes_eq-Decides}
@@ -10,8 +10,8 @@ use Rattle.std.specs.Option.{option_map}
 use Rattle.std.specs.Str.{bytes_eq}
 use Rattle.module_names.specs.Words.{Bytes}
 use Rattle.use_def.specs.Flows.{Set, everything, both, with_text}
-use Rattle.use_def.specs.Sets.{is_one_of, without, with_texts, with_one, changed, marked, assigned, outside, fresh}
-use Rattle.use_def.specs.Sets.{AreBack, common_set, common_texts, set_of}
+use Rattle.use_def.specs.Sets.{is_one_of, without, with_texts, with_one, changed, marked, assigned, fresh}
+use Rattle.use_def.specs.Sets.{AreBack, common_set, set_of}
 use Rattle.use_def.specs.declared.names.Common.{Common}
 use Rattle.use_def.specs.declared.names.Names.{Names}
 

@@ -1,29 +1,28 @@
 -- The walk of each statement fits its flow, and so do those of blocks and functions.
-use Rattle.std.proofs.Common.{◌≡◌, Bool, true, false, List, [], ◌∷◌, ◌++◌, Option, Some, None, refl, ap, sym, ◌∙◌}
+use Rattle.std.proofs.Common.{List, [], ◌∷◌, ◌++◌, Option, refl, ap, sym}
 use Rattle.std.proofs.Common.{subst, map, flat_map, append-nil}
 use Rattle.krn_base.specs.declared.place.Loc.{Loc}
 use Rattle.module_names.specs.Listing.{expr_nodes, name_in}
 use Rattle.module_names.specs.Nodes.{Node, Role, Operand, Iterated, Assigned, Updated}
 use Rattle.module_names.specs.Places.{given, Among}
-use Rattle.module_names.specs.Words.{Bytes}
 use Rattle.py_parse.specs.declared.tree.Expr.{Expr}
 use Rattle.py_parse.specs.declared.tree.Function.{Function}
 use Rattle.py_parse.specs.declared.tree.Module.{Module}
 use Rattle.py_parse.specs.declared.tree.Name.{Name}
 use Rattle.py_parse.specs.declared.tree.Stmt.{Stmt}
 use Rattle.py_parse.specs.declared.tree.Stmt.TheOpen.{Stmt-F}
-use Rattle.py_parse.specs.declared.tree.Stmt.TheFolds.{fold-Stmt, fold-roll-Stmt, map-Stmt}
+use Rattle.py_parse.specs.declared.tree.Stmt.TheFolds.{fold-roll-Stmt, map-Stmt}
 use Rattle.py_parse.specs.declared.tree.Stmt.TheViews.{roll-Stmt}
-use Rattle.use_def.specs.Flows.{Set, Flow, everything, nothing, with_name, with_target, with_params, read_mark, in_row}
+use Rattle.use_def.specs.Flows.{Flow, everything, nothing, with_name, with_target, with_params, read_mark, in_row}
 use Rattle.use_def.specs.Flows.{reads_marks, values_marks, parts, flow_step, flow, block_flow, function_marks}
-use Rattle.use_def.specs.Paths.{Event, Reads, Binds, Leaves, Choice, Walk, in_order, one_of, turns, read_event, reads}
+use Rattle.use_def.specs.Paths.{Binds, Leaves, Walk, in_order, one_of, turns, read_event, reads}
 use Rattle.use_def.specs.Paths.{binds, branches, walk_step, walk, block_walk, path}
 use Rattle.use_def.specs.Reads.{read_at}
 use Rattle.use_def.specs.Unassigned.{IsReadUnassigned}
 use Rattle.use_def.proofs.Folds.{Good, by_layers}
 use Rattle.use_def.proofs.Fits.{Fits, same_flow, nothing_fits, in_turn, behind_fits, row_fits, one_fits, turns_fit}
 use Rattle.use_def.proofs.Fits.{read_fits, bind_fits, target_fits, leave_fits}
-use Rattle.use_def.proofs.Runs.{ReadsFirst, read_is, is_read}
+use Rattle.use_def.proofs.Runs.{read_is, is_read}
 
 module _ (m : Module) where
   nodes_fit : (nodes : List Node) → Fits (λ o. flat_map (λ node. read_event (read_at m node)) nodes)

@@ -1,10 +1,10 @@
 -- The names that each path up to a point has bound, and the reads of other ones: what the code computes.
-use Rattle.std.specs.Prelude.{◌≡◌, ℕ, ◌+◌, Bool, true, false, ◌&&◌, ◌||◌, not, if◌then◌else◌, List, [], ◌∷◌, ◌++◌, map}
+use Rattle.std.specs.Prelude.{ℕ, ◌+◌, Bool, true, false, ◌&&◌, ◌||◌, not, if◌then◌else◌, List, [], ◌∷◌, ◌++◌, map}
 use Rattle.std.specs.Prelude.{flat_map, Option, Some, None}
 use Rattle.std.specs.Str.{bytes_eq}
 use Rattle.krn_base.specs.declared.place.Loc.{Loc}
 use Rattle.module_names.specs.Listing.{expr_nodes, name_in}
-use Rattle.module_names.specs.Nodes.{Node, Role, Operand, Iterated, Assigned, Updated}
+use Rattle.module_names.specs.Nodes.{Role, Operand, Iterated, Assigned, Updated}
 use Rattle.module_names.specs.Places.{mark}
 use Rattle.module_names.specs.Words.{Bytes}
 use Rattle.call_chains.specs.Sets.{marked}

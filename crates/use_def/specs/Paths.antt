@@ -2,7 +2,7 @@
 use Rattle.std.specs.Prelude.{ℕ, zero, suc, List, [], ◌∷◌, ◌++◌, map, flat_map, Option, Some, None}
 use Rattle.krn_base.specs.declared.place.Loc.{Loc}
 use Rattle.module_names.specs.Listing.{expr_nodes, name_in}
-use Rattle.module_names.specs.Nodes.{Node, Role, Operand, Iterated, Assigned, Updated}
+use Rattle.module_names.specs.Nodes.{Role, Operand, Iterated, Assigned, Updated}
 use Rattle.py_parse.specs.declared.tree.Expr.{Expr}
 use Rattle.py_parse.specs.declared.tree.Function.{Function}
 use Rattle.py_parse.specs.declared.tree.Module.{Module}

@@ -1,5 +1,5 @@
 -- The names whose values an expression reads.
-use Rattle.std.specs.Prelude.{Bool, if◌then◌else◌, List, Option, Some, None}
+use Rattle.std.specs.Prelude.{if◌then◌else◌, List, Option, Some, None}
 use Rattle.module_names.specs.Listing.{Layer, name_in}
 use Rattle.module_names.specs.Names.{is_assigned, is_taken}
 use Rattle.module_names.specs.Nodes.{Node, Role, Expression}

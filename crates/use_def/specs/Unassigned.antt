@@ -3,7 +3,6 @@
 use Rattle.std.specs.Prelude.{◌≡◌, ℕ, Bool, true, false, List, ◌∷◌, ◌++◌, slice_get, Some}
 use Rattle.std.specs.List.{list_any}
 use Rattle.krn_base.specs.declared.place.Loc.{Loc}
-use Rattle.krn_base.specs.declared.refusal.Refusal.{Refusal}
 use Rattle.krn_base.specs.declared.refusal.Rule.TheVariants.{Unassigned}
 use Rattle.krn_base.specs.declared.refusal.Stop.{Stop}
 use Rattle.krn_base.specs.declared.refusal.Stop.TheVariants as stop
@@ -48,6 +47,12 @@ pub record IsRefusedAt (m : Module) (exported : List ℕ) (at : Loc) : Type 0 wh
 -- no path of such a function reads a name that it leaves unassigned
 abbrev pub IsAccepted : Module → List ℕ → Type 0
 IsAccepted m exported = (at : Loc) → IsRefusedAt m exported at → ⊥
+
+-- In other words: on each path of such a function, something before each read of a name settles it.
+abbrev pub AreReadsSettled : Module → List ℕ → Type 0
+AreReadsSettled m exported = (number : ℕ) (function : Function) (choice : Choice) (before after : List Event)
+    (name : Name) → slice_get m.functions number ≡ Some function → Reaches (own_calls m) exported number
+    → path m function choice ≡ before ++ Reads name ∷ after → list_any (settles name.text) before ≡ true
 
 -- Some path does here, and none before it in the text.
 pub record IsFirst (m : Module) (exported : List ℕ) (at : Loc) : Type 0 where

@@ -65,6 +65,7 @@ pub fn assigned(alloc: Global, tree: &Module, exported: &[usize]) -> Result<(), 
     ensures refused { IfErr result (spec.Refuses tree.now exported.now) }
     ensures only { spec.IsAccepted tree.now exported.now → IsOnlyYes result }
     ensures place { (at : Loc) → spec.IsFirst tree.now exported.now at → IsOnlyAt Rule.Unassigned at result }
+    ensures settled { OnOk result (spec.AreReadsSettled tree.now exported.now) }
 {
     let rows = own_calls(alloc, tree)?;
     let marks = reached(alloc, rows.as_slice(), exported)?;

@@ -1,5 +1,5 @@
 use mathlib.Core.Path.{fun_ext}
-use Rattle.std.proofs.Common.{◌≡◌, ◌<◌, length, arith, sym, ap, ◌∙◌, take}
+use Rattle.std.proofs.Common.{◌<◌, length, arith, take}
 use Rattle.use_def.specs.Sets.{marked, is_one_of}
 use Rattle.use_def.proofs.SetLaws.{kept_more, seen, seen_more}
 use Rattle.use_def.proofs.names.marked_of.Goals as goal

@@ -1,4 +1,4 @@
-use Rattle.std.proofs.Common.{◌≡◌, ◌<◌, length, arith, ap, drop, ◌+◌}
+use Rattle.std.proofs.Common.{◌<◌, length, arith, ap, drop, ◌+◌}
 use Rattle.module_names.specs.Nodes.{Operand}
 use Rattle.use_def.specs.Flows.{reads_marks, values_marks}
 use Rattle.use_def.specs.Sets.{assigned}

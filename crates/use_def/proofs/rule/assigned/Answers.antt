@@ -1,10 +1,10 @@
-use Rattle.std.proofs.Common.{◌≡◌, ap, sym, ◌∙◌, subst, List, ℕ, Bool}
+use Rattle.std.proofs.Common.{◌≡◌, sym, ◌∙◌, subst, List, ℕ, Bool}
 use Rattle.call_chains.specs.Calls.{own_calls}
 use Rattle.call_chains.specs.Chains.{Rows}
 use Rattle.call_chains.specs.Sets.{AreReached}
 use Rattle.py_parse.specs.declared.tree.Module.{Module}
 use Rattle.use_def.specs.Flows.{all_marks}
-use Rattle.use_def.proofs.Modules.{ok_clause, refused_clause, none_marked, first_marked}
+use Rattle.use_def.proofs.Modules.{ok_clause, refused_clause, none_marked, first_marked, settled_clause}
 use Rattle.use_def.proofs.rule.assigned.Goals as goal
 
 -- the marks are those of the module's own calls
@@ -52,3 +52,7 @@ returns-clause-place c = λ at first.
     c.in_ok-marks.ensures in
     c.answer_first.ensures.place (all_marks m reached) c.in_ok-first.ensures at
     (first_marked m exported reached are at first)
+
+pub returns-clause-settled : goal.returns-clause-settled
+returns-clause-settled c =
+    settled_clause c.args.tree.now c.args.exported.now c.answer_first.result (returns-clause-ok c)

@@ -1,4 +1,4 @@
-use Rattle.std.proofs.Common.{◌≡◌, ◌<◌, length, arith, ap, ap₂, ◌∙◌, sym}
+use Rattle.std.proofs.Common.{◌<◌, length, arith, ap₂, ◌∙◌}
 use Rattle.module_names.specs.Places.{soonest}
 use Rattle.use_def.specs.Flows.{marks_where}
 use Rattle.use_def.proofs.Steps.{item_here, one_function}

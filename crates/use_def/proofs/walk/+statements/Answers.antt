@@ -8,7 +8,7 @@ use Rattle.use_def.proofs.Folds.{fold_for}
 use Rattle.use_def.proofs.SetLaws.{back_assigned, back_then}
 use Rattle.use_def.proofs.Steps.{item_here, row_marks, row_set, arms_marks, arms_common, on_ok_more, if_flow}
 use Rattle.use_def.proofs.Steps.{then_marks}
-use Rattle.use_def.proofs.Weights.{weight, block_weight, arms_weight, arm_weight, stmt_below, arm_below}
+use Rattle.use_def.proofs.Weights.{weight, block_weight, arms_weight, stmt_below}
 use Rattle.use_def.proofs.Weights.{weight_if, weight_for}
 use Rattle.use_def.specs.Flows.{Flow, both, flow, flow_step, block_flow, reads_marks, parts, arm_flows, with_name}
 use Rattle.use_def.specs.Flows.{with_text}
