@@ -30,6 +30,7 @@ fn bind_target<'a>(target: &'a Expr, names: &mut Names<'a>) -> Result<(), AllocE
     }
 }
 
+/// The first of the reads so far of unassigned names, with those of an assignment, which binds its name last.
 fn assignment<'a>(
     alloc: Global,
     words: &Words<'_>,
@@ -38,7 +39,9 @@ fn assignment<'a>(
     names: &mut Names<'a>,
     first: Option<Loc>,
 ) -> Result<Option<Loc>, AllocError>
-    ensures first { IfOk result (λ least. least ≡ soonest first (spec.reads_marks words.now.tree.now (assigned names.old) kind.Operand value.now ++ spec.reads_marks words.now.tree.now (assigned names.old) kind.Assigned target.now)) }
+    ensures first { IfOk result (λ least. least ≡ soonest first (
+        spec.reads_marks words.now.tree.now (assigned names.old) kind.Operand value.now
+        ++ spec.reads_marks words.now.tree.now (assigned names.old) kind.Assigned target.now)) }
     ensures assigned { OnOk result (assigned names.new ≡ spec.with_target (name_in target.now) (assigned names.old)) }
     ensures outside { OnOk result (outside names.new ≡ outside names.old) }
 {
@@ -48,7 +51,7 @@ fn assignment<'a>(
     Ok(first)
 }
 
-/// An augmented assignment reads its target first.
+/// The same with an augmented assignment, which reads its target first.
 fn augmented<'a>(
     alloc: Global,
     words: &Words<'_>,
@@ -57,7 +60,9 @@ fn augmented<'a>(
     names: &mut Names<'a>,
     first: Option<Loc>,
 ) -> Result<Option<Loc>, AllocError>
-    ensures first { IfOk result (λ least. least ≡ soonest first (spec.reads_marks words.now.tree.now (assigned names.old) kind.Updated target.now ++ spec.reads_marks words.now.tree.now (assigned names.old) kind.Operand value.now)) }
+    ensures first { IfOk result (λ least. least ≡ soonest first (
+        spec.reads_marks words.now.tree.now (assigned names.old) kind.Updated target.now
+        ++ spec.reads_marks words.now.tree.now (assigned names.old) kind.Operand value.now)) }
     ensures assigned { OnOk result (assigned names.new ≡ spec.with_target (name_in target.now) (assigned names.old)) }
     ensures outside { OnOk result (outside names.new ≡ outside names.old) }
 {
@@ -67,6 +72,7 @@ fn augmented<'a>(
     Ok(first)
 }
 
+/// The same with a `return`, which ends each path.
 fn returned(
     alloc: Global,
     words: &Words<'_>,
@@ -74,7 +80,8 @@ fn returned(
     names: &mut Names<'_>,
     first: Option<Loc>,
 ) -> Result<Option<Loc>, AllocError>
-    ensures first { IfOk result (λ least. least ≡ soonest first (spec.values_marks words.now.tree.now (assigned names.old) values.now)) }
+    ensures first { IfOk result (λ least. least
+        ≡ soonest first (spec.values_marks words.now.tree.now (assigned names.old) values.now)) }
     ensures assigned { OnOk result (assigned names.new ≡ spec.everything) }
     ensures outside { OnOk result (outside names.new ≡ outside names.old) }
 {
@@ -83,6 +90,7 @@ fn returned(
     Ok(first)
 }
 
+/// The same with a statement.
 #[cycle(statements)]
 fn statement<'a>(
     alloc: Global,
@@ -91,8 +99,10 @@ fn statement<'a>(
     names: &mut Names<'a>,
     first: Option<Loc>,
 ) -> Result<Option<Loc>, AllocError>
-    ensures first { IfOk result (λ least. least ≡ soonest first ((spec.flow words.now.tree.now statement.now (assigned names.old)).1)) }
-    ensures assigned { OnOk result (assigned names.new ≡ (spec.flow words.now.tree.now statement.now (assigned names.old)).0) }
+    ensures first { IfOk result (λ least. least
+        ≡ soonest first ((spec.flow words.now.tree.now statement.now (assigned names.old)).1)) }
+    ensures assigned { OnOk result (assigned names.new
+        ≡ (spec.flow words.now.tree.now statement.now (assigned names.old)).0) }
     ensures outside { OnOk result (outside names.new ≡ outside names.old) }
 {
     match statement {
@@ -118,6 +128,7 @@ fn statement<'a>(
     }
 }
 
+/// The same with statements in a row.
 #[cycle(statements)]
 fn block<'a>(
     alloc: Global,
@@ -126,8 +137,10 @@ fn block<'a>(
     names: &mut Names<'a>,
     first: Option<Loc>,
 ) -> Result<Option<Loc>, AllocError>
-    ensures first { IfOk result (λ least. least ≡ soonest first ((spec.block_flow words.now.tree.now block.now (assigned names.old)).1)) }
-    ensures assigned { OnOk result (assigned names.new ≡ (spec.block_flow words.now.tree.now block.now (assigned names.old)).0) }
+    ensures first { IfOk result (λ least. least
+        ≡ soonest first ((spec.block_flow words.now.tree.now block.now (assigned names.old)).1)) }
+    ensures assigned { OnOk result (assigned names.new
+        ≡ (spec.block_flow words.now.tree.now block.now (assigned names.old)).0) }
     ensures outside { OnOk result (outside names.new ≡ outside names.old) }
 {
     let mut first = first;
@@ -137,7 +150,7 @@ fn block<'a>(
     Ok(first)
 }
 
-/// A part of an `if`, behind which the names are what they were.
+/// The same with a part of an `if`, behind which the names are what they were.
 #[cycle(statements)]
 fn part<'a>(
     alloc: Global,
@@ -147,7 +160,8 @@ fn part<'a>(
     common: &mut Common<'a>,
     first: Option<Loc>,
 ) -> Result<Option<Loc>, AllocError>
-    ensures first { IfOk result (λ least. least ≡ soonest first ((spec.block_flow words.now.tree.now body.now (assigned names.old)).1)) }
+    ensures first { IfOk result (λ least. least
+        ≡ soonest first ((spec.block_flow words.now.tree.now body.now (assigned names.old)).1)) }
     ensures common { OnOk result (common_set (marked names.old) common.new
         ≡ spec.both (common_set (marked names.old) common.old)
         (spec.block_flow words.now.tree.now body.now (assigned names.old)).0) }
@@ -160,7 +174,7 @@ fn part<'a>(
     Ok(first)
 }
 
-/// The parts of an `if`, each behind the conditions before it. None of them binds a name for another one.
+/// The same with the parts of an `if`, each behind the conditions before it. None binds a name for another one.
 #[cycle(statements)]
 fn branches<'a>(
     alloc: Global,
@@ -170,8 +184,10 @@ fn branches<'a>(
     names: &mut Names<'a>,
     first: Option<Loc>,
 ) -> Result<Option<Loc>, AllocError>
-    ensures first { IfOk result (λ least. least ≡ soonest first ((spec.parts_flow words.now.tree.now arms.now otherwise.now (assigned names.old)).1)) }
-    ensures assigned { OnOk result (assigned names.new ≡ (spec.parts_flow words.now.tree.now arms.now otherwise.now (assigned names.old)).0) }
+    ensures first { IfOk result (λ least. least
+        ≡ soonest first ((spec.parts_flow words.now.tree.now arms.now otherwise.now (assigned names.old)).1)) }
+    ensures assigned { OnOk result (assigned names.new
+        ≡ (spec.parts_flow words.now.tree.now arms.now otherwise.now (assigned names.old)).0) }
     ensures outside { OnOk result (outside names.new ≡ outside names.old) }
 {
     let mut first = first;
@@ -185,7 +201,7 @@ fn branches<'a>(
     Ok(first)
 }
 
-/// A loop. Its body may be skipped, so that behind it the names are what they were.
+/// The same with a loop. Its body may be skipped, so that behind it the names are what they were.
 #[cycle(statements)]
 fn looped<'a>(
     alloc: Global,
@@ -196,7 +212,9 @@ fn looped<'a>(
     names: &mut Names<'a>,
     first: Option<Loc>,
 ) -> Result<Option<Loc>, AllocError>
-    ensures first { IfOk result (λ least. least ≡ soonest first (spec.reads_marks words.now.tree.now (assigned names.old) kind.Iterated over.now ++ (spec.block_flow words.now.tree.now body.now (spec.with_name variable.now (assigned names.old))).1)) }
+    ensures first { IfOk result (λ least. least
+        ≡ soonest first (spec.reads_marks words.now.tree.now (assigned names.old) kind.Iterated over.now
+        ++ (spec.block_flow words.now.tree.now body.now (spec.with_name variable.now (assigned names.old))).1)) }
     ensures back { OnOk result (AreBack names.old names.new) }
 {
     let first = reads(alloc, words, over, Role::Iterated, names, first)?;

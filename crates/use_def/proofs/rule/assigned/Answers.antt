@@ -41,7 +41,8 @@ returns-clause-only c = λ accepted.
     let reached = c.as_slice-2.result.now in
     let are = of_module m exported _ _ _ reached c.in_ok-rows.ensures c.as_slice.ensures c.as_slice-2.ensures.value
     c.in_ok-marks.ensures in
-    c.answer_first.ensures.only (all_marks m reached) c.in_ok-first.ensures (none_marked m exported reached are accepted)
+    c.answer_first.ensures.only (all_marks m reached) c.in_ok-first.ensures
+    (none_marked m exported reached are accepted)
 
 pub returns-clause-place : goal.returns-clause-place
 returns-clause-place c = λ at first.

@@ -67,7 +67,8 @@ branches-loop-arm-preserved t c =
     let back = c.loop-arm.invariant.back in
     let same : assigned now ≡ assigned old = back_assigned old now back in
     record {
-      first = arms_marks m other (assigned old) _ _ arm c.loop-arm.first c.in_ok-first.first c.in_ok-first-2.first _ here
+      first = arms_marks m other (assigned old) _ _ arm c.loop-arm.first c.in_ok-first.first
+          c.in_ok-first-2.first _ here
           c.loop-arm.invariant.first
           (c.in_ok-first.ensures ∙ ap (λ s. soonest c.loop-arm.first (reads_marks m s Operand arm.1)) same)
           (c.in_ok-first-2.ensures.first
@@ -78,7 +79,8 @@ branches-loop-arm-preserved t c =
           ∙ (c.in_ok-first-2.ensures.common
           ∙ (ap (λ s. both (common_set s c.loop-arm.common) (block_flow m c.as_slice.result.now (assigned now)).0)
           back.marks
-          ∙ ap₂ (λ b s. both (common_set (marked old) c.loop-arm.common) (block_flow m b s).0) c.as_slice.ensures same)));
+          ∙ ap₂ (λ b s. both (common_set (marked old) c.loop-arm.common) (block_flow m b s).0)
+          c.as_slice.ensures same)));
       back = back_then old now c.part.new.names back c.in_ok-first-2.ensures.back;
     }
 
