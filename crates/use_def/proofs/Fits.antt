@@ -12,6 +12,7 @@ use Rattle.use_def.specs.Flows.{Set, Flow, everything, with_name, with_target, b
 use Rattle.use_def.specs.Paths.{Event, Reads, Binds, Leaves, Choice, Any, Pick, Walk, left, right, in_order, one_of}
 use Rattle.use_def.specs.Paths.{turns, read_event, binds}
 use Rattle.use_def.proofs.Runs.{ReadsFirst, Passes, read_left, read_right, read_split, pass_join, pass_split}
+use Rattle.use_def.proofs.Runs.{or_false, both_false}
 
 -- ---- places among marks
 
@@ -245,14 +246,6 @@ read_fits (Some name) = record {
   spares = λ s x un. (un, Any, (refl, tt));
   spared = λ s x o un p. un;
 }
-
-or_false : (a b : Bool) → (a || b) ≡ false → (a ≡ false) × (b ≡ false)
-or_false true b h = absurd cc
-or_false false b h = (refl, h)
-
-both_false : (a b : Bool) → a ≡ false → b ≡ false → (a || b) ≡ false
-both_false true b h k = absurd cc
-both_false false b h k = k
 
 bind_reads : (at : Loc) (x : Bytes) (name : Name) → ReadsFirst at x (Binds name ∷ []) → ⊥
 bind_reads at x name (inl h) = h

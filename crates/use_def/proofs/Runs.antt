@@ -55,11 +55,11 @@ pass_split x (e ∷ es) b p =
 
 -- ---- the rule's own words
 
-or_false : (a b : Bool) → (a || b) ≡ false → (a ≡ false) × (b ≡ false)
+pub or_false : (a b : Bool) → (a || b) ≡ false → (a ≡ false) × (b ≡ false)
 or_false true b h = absurd cc
 or_false false b h = (refl, h)
 
-both_false : (a b : Bool) → a ≡ false → b ≡ false → (a || b) ≡ false
+pub both_false : (a b : Bool) → a ≡ false → b ≡ false → (a || b) ≡ false
 both_false true b h k = absurd cc
 both_false false b h k = k
 
@@ -77,12 +77,6 @@ read_is at es r = (
 )
 
 module _ (at : Loc) (x : Bytes) where
-  here_is : (e : Event) (es : List Event) → IsRead at x e → ReadsUnassigned (e ∷ es) at
-  here_is (Reads name) es h =
-      record { before = []; name = name; after = es; parts = refl; place = h.1; unsettled = refl }
-  here_is (Binds name) es h = absurd h
-  here_is Leaves es h = absurd h
-
   abbrev Named : List Event → Type 0
   Named es = (r : ReadsUnassigned es at) × (r.name.text ≡ x)
 
