@@ -13,5 +13,6 @@ mod rule;
 #[cfg(test)]
 mod tests;
 
-pub use graph::OwnCall;
+pub use graph::{OwnCall, own_calls};
+pub use reach::reached;
 pub use rule::recursion;

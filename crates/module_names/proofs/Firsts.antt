@@ -116,6 +116,12 @@ module _ (rule : Rule) (marks : List (Option Loc)) where
       let same : record { rule = rule; loc = at } ≡ r = cc in
       subst (λ (q : Refusal). (q.rule ≡ rule) × IsFirst q.loc (given marks)) same (refl, first_is marks None at e)
 
+  pub is_answer : (result : Result (Unit {0}) Stop) → result ≡ answer rule (soonest None marks)
+      → IsAnswer rule marks result
+  is_answer (Ok x) e = sym e
+  is_answer (Err stop.Memory) e = tt
+  is_answer (Err (stop.Refused r)) e = sym e
+
   pub ok_clause : (result : Result (Unit {0}) Stop) → IsAnswer rule marks result → OnOk result (given marks ≡ [])
   ok_clause (Ok x) is = by_ok (soonest None marks) refl is
   ok_clause (Err stop.Memory) is = tt

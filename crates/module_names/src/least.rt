@@ -1,6 +1,7 @@
 //! The first of several places.
 
-ghost use Rattle.std.specs.Prelude.{◌≡◌};
+ghost use Rattle.std.specs.Prelude.{◌≡◌, List, [], None, Option, OnOk, IfErr};
+ghost use Rattle.krn_base.specs.declared.place.Loc.{Loc};
 ghost use Rattle.module_names.specs.Places as spec;
 
 use krn_base::{Loc, Refusal, Rule, Stop};
@@ -46,4 +47,17 @@ pub fn answer(rule: Rule, first: Option<Loc>) -> Result<(), Stop>
         None => Ok(()),
         Some(loc) => Err(Stop::Refused(Refusal { rule, loc })),
     }
+}
+
+/// The answer of a test whose first refused place this is, for each list of marks of which it is the first.
+pub fn answer_first(rule: Rule, first: Option<Loc>) -> Result<(), Stop>
+    ensures ok { (marks : List (Option Loc)) → first ≡ spec.soonest None marks → OnOk result (spec.given marks ≡ []) }
+    ensures refused { (marks : List (Option Loc)) → first ≡ spec.soonest None marks
+        → IfErr result (spec.RefusesAt rule (spec.given marks)) }
+    ensures only { (marks : List (Option Loc)) → first ≡ spec.soonest None marks → spec.given marks ≡ []
+        → spec.IsOnlyYes result }
+    ensures place { (marks : List (Option Loc)) → first ≡ spec.soonest None marks → (at : Loc)
+        → spec.IsFirst at (spec.given marks) → spec.IsOnlyAt rule at result }
+{
+    answer(rule, first)
 }

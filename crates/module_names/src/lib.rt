@@ -12,7 +12,8 @@ mod tests;
 mod words;
 
 pub use forms::{begins_with_call, profile};
-pub use least::{is_before, sooner};
-pub use listing::{Listing, list_function};
-pub use naming::names;
+pub use least::{answer_first, is_before, sooner};
+pub use listing::{Listing, list_expression, list_function};
+pub use naming::{is_assigned, is_taken, names};
 pub use node::{Maker, Node, Role, name_in};
+pub use words::{Words, words_of};

@@ -454,3 +454,16 @@ pub fn list_function(alloc: Global, function: &Function) -> Result<Listing<'_>, 
     list_block(function.body.as_slice(), true, &mut out)?;
     Ok(out)
 }
+
+/// The listing of an expression that stands so, with what stands inside it.
+pub fn list_expression<'a>(
+    alloc: Global,
+    x: &'a Expr,
+    role: Role<'a>,
+) -> Result<Listing<'a>, AllocError>
+    ensures { IfOk result (λ listing. listed listing ≡ spec.expr_nodes (role_seen role.entry) x.now) }
+{
+    let mut out = Listing::new(alloc);
+    list_expr(x, role, &mut out)?;
+    Ok(out)
+}

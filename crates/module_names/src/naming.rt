@@ -119,7 +119,8 @@ fn in_params(alloc: Global, params: &[Name], first: Option<Loc>) -> Result<Optio
 
 // ---- bodies
 
-fn is_taken(words: &Words<'_>, name: &Name) -> bool
+/// Whether a name is a function's, an import's or a built-in name.
+pub fn is_taken(words: &Words<'_>, name: &Name) -> bool
     ensures { result ≡ spec.is_taken words.now.tree.now name.now }
 {
     is_function(words, name) || is_import(words, name) || is_built_in(name)
@@ -147,7 +148,8 @@ fn uncallable(words: &Words<'_>, name: &Name) -> Option<Loc>
     mark(!(is_function(words, name) || is_callable(name)), name.loc)
 }
 
-fn is_assigned(role: Role<'_>) -> bool
+/// Whether an expression that stands so is the target of `=`.
+pub fn is_assigned(role: Role<'_>) -> bool
     ensures { result ≡ spec.is_assigned (role_seen role.entry) }
 {
     match role {
