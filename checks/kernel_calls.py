@@ -64,9 +64,9 @@ class Wanted:
     buffers: dict
 
 
-def load_module(path):
-    """The module of this path, read by CPython from its text."""
-    spec = importlib.util.spec_from_file_location("kernel_module", path)
+def load_module(path, name="kernel_module"):
+    """The module of this path, read by CPython from its text, or compiled under the given name."""
+    spec = importlib.util.spec_from_file_location(name, path)
     module = importlib.util.module_from_spec(spec)
     spec.loader.exec_module(module)
     return module
