@@ -3,9 +3,9 @@
 # division by 0 ends the kernel, and what was stored before stays.
 
 
-def gcd(a, b):
-    """The greatest common divisor. Two numbers of 64 bits take Euclid less than 96 turns."""
-    for turn in range(96):
+def gcd(a, b, turns):
+    """The greatest common divisor by Euclid. Two numbers of 64 bits take less than 96 turns."""
+    for turn in range(turns):
         if b != 0:
             rest = a % b
             a = b
@@ -14,7 +14,7 @@ def gcd(a, b):
 
 
 def reduced(top, bottom):
-    divisor = gcd(top, bottom)
+    divisor = gcd(top, bottom, 96)
     return top // divisor
 
 
@@ -24,7 +24,7 @@ def common(numbers):
     """The greatest common divisor of all numbers; 0 where there is none but 0."""
     divisor = 0
     for i in range(len(numbers)):
-        divisor = gcd(divisor, numbers[i])
+        divisor = gcd(divisor, numbers[i], 96)
     return divisor
 
 

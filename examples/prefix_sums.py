@@ -7,10 +7,11 @@
 #pythran export accumulate(int64[::])
 def accumulate(a):
     """Replaces each element by the sum of all elements up to it."""
-    for k in range(22):
-        step = 1 << k
+    step = 1
+    for turn in range(len(a)):
         if step < len(a):
             a[step:] += a[:-step]
+            step += step
 
 
 #pythran export differences(int64[])

@@ -3,12 +3,14 @@
 import numpy as np
 
 
+#pythran export blend(int64[], int64[])
 #pythran export blend(int64[::], int64[::])
 def blend(to, other):
     """Adds twice the other view to a view, in place."""
     to[:] = to + 2 * other
 
 
+#pythran export swap(int64[], int64[])
 #pythran export swap(int64[::], int64[::])
 def swap(a, b):
     """Exchanges the elements of two views."""
@@ -17,6 +19,7 @@ def swap(a, b):
     b[:] = kept
 
 
+#pythran export interleave(int64[], int64[])
 #pythran export interleave(int64[::], int64[::])
 def interleave(a, b):
     """The elements of both in turn, and the same from the end."""
@@ -26,6 +29,7 @@ def interleave(a, b):
     return out, out[::-1]
 
 
+#pythran export part(int64[], int64, int64, int64)
 #pythran export part(int64[::], int64, int64, int64)
 def part(a, start, stop, step):
     """A slice with given bounds. A step of 0 is a ValueError."""
