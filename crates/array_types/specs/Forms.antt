@@ -231,14 +231,14 @@ call_value g target at vs = need (only_type g.1) at >>= λ r. made target r (λ 
 
 -- ---- expressions
 
+-- what a step makes of the value before it
+abbrev pub Follow : Type 0
+Follow = Value → Made
+
 abbrev pub part_step : t.Part-F (Walk CoreSub) Follow Made → Walk CoreSub
 part_step (t.Part-F.At x) = x Own >>= λ v. pure (sub.At v.oper)
 part_step (t.Part-F.Cut start stop step) =
     part_of start >>= λ a. part_of stop >>= λ b. part_of step >>= λ c. pure (sub.Cut a b c)
-
--- what a step makes of the value before it
-abbrev pub Follow : Type 0
-Follow = Value → Made
 
 abbrev pub step_step : t.Step-F (Walk CoreSub) Follow Made → Follow
 step_step (t.Step-F.Operate op at args) a target = values_from (a ∷ []) args >>= λ vs. applied op at vs target

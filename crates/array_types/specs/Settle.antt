@@ -40,7 +40,7 @@ module _ (numbers : List ℕ) where
   settle_step (c.Reduce to op of at) = core.Reduce to op of at
   settle_step (c.Store of value at) = core.Store of value at
   settle_step (c.Call to instance args) = core.Call to instance args
-  settle_step (c.If cond yes no) = core.If cond yes no
+  settle_step (c.If cond part other) = core.If cond part other
   settle_step (c.For var lo hi by at omp body) = core.For var lo hi by at (settled_pairs omp) body
   settle_step (c.Return values) = core.Return values
 

@@ -52,7 +52,15 @@ fn term(
             state,
         ),
         Term::Apply(op, at, args) => {
-            let values = terms(Seq::new(alloc), args.as_slice(), depth, routines, names, alloc, state)?;
+            let values = terms(
+                Seq::new(alloc),
+                args.as_slice(),
+                depth,
+                routines,
+                names,
+                alloc,
+                state,
+            )?;
             steps::applied(*op, *at, values, target, alloc, state)
         }
         Term::Logic(both, first, rest) => {
@@ -91,7 +99,15 @@ fn term(
             follow(last, v, target, depth, routines, names, alloc, state)
         }
         Term::Call(name, args) => {
-            let values = terms(Seq::new(alloc), args.as_slice(), depth, routines, names, alloc, state)?;
+            let values = terms(
+                Seq::new(alloc),
+                args.as_slice(),
+                depth,
+                routines,
+                names,
+                alloc,
+                state,
+            )?;
             let types = cores::types_of(alloc, values.as_slice())?;
             let given = call(depth, name, types, routines, names, alloc, state)?;
             steps::call_value(given, target, name.loc, values.as_slice(), alloc, state)
@@ -114,16 +130,7 @@ fn followed(
 {
     let mut a = first;
     for step in steps {
-        a = follow(
-            step,
-            a,
-            Target::Own,
-            depth,
-            routines,
-            names,
-            alloc,
-            state,
-        )?;
+        a = follow(step, a, Target::Own, depth, routines, names, alloc, state)?;
     }
     Ok(a)
 }
@@ -311,11 +318,27 @@ fn line(
 {
     match x {
         Line::Return(at, args) => {
-            let values = terms(Seq::new(alloc), args.as_slice(), depth, routines, names, alloc, state)?;
+            let values = terms(
+                Seq::new(alloc),
+                args.as_slice(),
+                depth,
+                routines,
+                names,
+                alloc,
+                state,
+            )?;
             steps::returned(values.as_slice(), *at, alloc, state)
         }
         Line::Alone(name, args) => {
-            let values = terms(Seq::new(alloc), args.as_slice(), depth, routines, names, alloc, state)?;
+            let values = terms(
+                Seq::new(alloc),
+                args.as_slice(),
+                depth,
+                routines,
+                names,
+                alloc,
+                state,
+            )?;
             let types = cores::types_of(alloc, values.as_slice())?;
             let given = call(depth, name, types, routines, names, alloc, state)?;
             let args = cores::opers_of(alloc, values.as_slice())?;
@@ -392,7 +415,15 @@ fn over_range(
     ensures { Walks (spec.loop (calls_at routines.now names.now depth) head.now
         (spec.block (calls_at routines.now names.now depth) body.now) state.old) result state.new }
 {
-    let values = terms(Seq::new(alloc), head.args.as_slice(), depth, routines, names, alloc, state)?;
+    let values = terms(
+        Seq::new(alloc),
+        head.args.as_slice(),
+        depth,
+        routines,
+        names,
+        alloc,
+        state,
+    )?;
     let range = need(steps::range_of(values.as_slice()), head.at, state)?;
     let omp = steps::before_loop(&head.omp, head.at, alloc, state)?;
     let target = Target::Into(head.var.text.try_copy()?, head.var.loc, head.at);

@@ -109,6 +109,22 @@ fn complete(alloc: Global, instances: Seq<Option<Instance>>) -> Result<Seq<Insta
     Ok(all)
 }
 
+/// The state before the first kernel. Takes no memory.
+fn start(alloc: Global) -> State
+    ensures { result ≡ spec.start }
+{
+    State {
+        keys: Seq::new(alloc),
+        instances: Seq::new(alloc),
+        types: Seq::new(alloc),
+        known: Known::new(alloc),
+        awaited: Known::new(alloc),
+        places: Seq::new(alloc),
+        out: Seq::new(alloc),
+        rets: None,
+    }
+}
+
 /// The types of a module's terms, and its core: an instance for each signature, in order, and one for each list of
 /// argument types with which a kernel, or a function that one calls, calls a function. Instances are numbered as they
 /// are met. The walk takes the kernels in order, statements as they are evaluated and the bodies of loops once; after
@@ -122,8 +138,7 @@ fn complete(alloc: Global, instances: Seq<Option<Instance>>) -> Result<Seq<Insta
 ///
 /// Cost: an instance takes one walk through its function's body, which is linear in the body's terms, and its core is
 /// linear in them too. Names and functions are found by an index. A call compares its types with those of the
-/// instances met so far, and what waits for a type is looked up. The finished program
-/// is tested once, and its calls once for each level of calls.
+/// instances met so far. The finished program is tested once, and its calls once for each level of calls.
 pub fn typed_terms(
     alloc: Global,
     routines: &[Routine],
@@ -133,16 +148,7 @@ pub fn typed_terms(
     ensures typed { IfOk result IsTyped }
 {
     let names = functions(alloc, routines)?;
-    let mut state = State {
-        keys: Seq::new(alloc),
-        instances: Seq::new(alloc),
-        types: Seq::new(alloc),
-        known: Known::new(alloc),
-        awaited: Known::new(alloc),
-        places: Seq::new(alloc),
-        out: Seq::new(alloc),
-        rets: None,
-    };
+    let mut state = start(alloc);
     let kernels = kernels(signatures, routines, &names, alloc, &mut state)?;
     let State {
         keys: _,

@@ -6,20 +6,36 @@ ghost use Rattle.array_types.specs.Walk.{Walks};
 use crate::state::State;
 use crate::walk::{need, number_for, place_of};
 use eager_rules::Core;
-use krn_base::{Join, NoMemory, Seq, Stop};
+use krn_base::{Join, NoMemory, Seq, Stop, Text};
 use std::alloc::Global;
+
+fn number_of_text(text: &[u8], i: u32, state: &State) -> Result<u32, Stop>
+    ensures { Walks (spec.number_of_text text.now i state.now) result state.now }
+{
+    let found = number_for(text, &state.known);
+    need(found, place_of(i, state.places.as_slice()), state)
+}
+
+fn numbers_for(
+    alloc: Global,
+    entries: &[(Text, u32)],
+    state: &State,
+) -> Result<Seq<u32>, Stop>
+    ensures { Walks (spec.numbers_from [] entries.now state.now) result state.now }
+{
+    let mut found = Seq::new(alloc);
+    for entry in entries {
+        let n = number_of_text(entry.0.as_slice(), entry.1, state)?;
+        found.push(n)?;
+    }
+    Ok(found)
+}
 
 /// The numbers of the names that waited, in order.
 pub fn numbers(alloc: Global, state: &State) -> Result<Seq<u32>, Stop>
     ensures { Walks (spec.numbers_from [] state.now.awaited state.now) result state.now }
 {
-    let mut found = Seq::new(alloc);
-    for entry in state.awaited.entries() {
-        let n = number_for(entry.0.as_slice(), &state.known);
-        let at = place_of(entry.1, state.places.as_slice());
-        found.push(need(n, at, state)?)?;
-    }
-    Ok(found)
+    numbers_for(alloc, state.awaited.entries(), state)
 }
 
 fn settled_pair(pair: (Join, u32), numbers: &[u32]) -> (Join, u32)

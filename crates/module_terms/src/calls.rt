@@ -55,12 +55,7 @@ fn call_member(
 }
 
 /// A call of a method, whose first operand is what it is asked of.
-fn call_method(
-    alloc: Global,
-    x: Term,
-    name: &Name,
-    operands: Seq<Term>,
-) -> Result<Term, AllocError>
+fn call_method(alloc: Global, x: Term, name: &Name, operands: Seq<Term>) -> Result<Term, AllocError>
     ensures { IfOk result (λ term. term ≡ spec.call_method x name.now operands) }
 {
     let operation = settled(method(name), operands.len().saturating_add(1));

@@ -7,10 +7,11 @@ use Rattle.module_terms.specs.declared.term.Part.{size-Part}
 use Rattle.module_terms.specs.declared.term.Term.{size-Term}
 use Rattle.array_types.specs.declared.state.Target.TheVariants.{Own}
 use Rattle.array_types.specs.Weights.{line_weight, block_weight}
-use Rattle.array_types.specs.Forms.{Given, term, links, into, line, in_order}
-use Rattle.array_types.specs.Modules.{calls_at, new_at, instance_for}
+use Rattle.array_types.specs.Forms.{Given, term, links, into, line, in_order, block}
+use Rattle.array_types.specs.Modules.{calls_at, new_at, instance_for, begun, entered, finished}
 use Rattle.array_types.specs.declared.state.Value.{Value}
-use Rattle.array_types.specs.Walk.{Outcome, Walks, and_then, find}
+use Rattle.array_types.specs.Walk.{Nothing, Outcome, Walks, and_then, find}
+use Rattle.array_types.specs.declared.state.State.{State}
 use Rattle.array_types.proofs.Equations.{logic_from, new_below, block_from, called_new, test_held}
 use Rattle.array_types.proofs.Weights.{line_here, weighs_Store}
 use Rattle.array_types.proofs.body.+body.Goals as goal
@@ -99,3 +100,16 @@ call-returns-else-depth-eq0 t c =
     let below = new_below c.args.routines.now c.args.names.now c.args.depth c.in-Some.function c.in-Some-get.routine.now
     c.args.types c.args.name.now.loc c.args.state.now c.if-depth-eq0.false in
     subst (λ (o : Outcome Given). Walks o c.new.result c.new.new.state) (sym (e ∙ below)) c.new.ensures
+
+pub enter-returns-in_err-block : goal.enter-returns-in_err-block
+enter-returns-in_err-block t c =
+    let calls = calls_at c.args.routines.now c.args.names.now c.args.depth in
+    let left : Nothing → State → Outcome Given = λ u w.
+    finished (length c.args.state.now.instances) c.args.routine.now c.args.params c.args.state.now w in
+    let start : c.in_ok-within.within ≡ begun c.args.key c.args.routine.now c.args.params c.args.state.now =
+    c.in_ok-within.ensures.begun
+    ∙ ap (λ params. begun c.args.key c.args.routine.now params c.args.state.now) c.as_slice.ensures in
+    let e : entered c.args.key c.args.routine.now c.args.params (block calls c.args.routine.now.body)
+    c.args.state.now ≡ and_then (block calls c.as_slice-2.result.now c.in_ok-within.within) left =
+    sym (ap₂ (λ body s. and_then (block calls body s) left) c.as_slice-2.ensures start) in
+    search rules
