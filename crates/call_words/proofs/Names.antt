@@ -1,6 +1,6 @@
 -- What a word has in front of its first `=` (61), and behind it.
-use Rattle.std.proofs.Common.{◌≡◌, ℕ, ◌+◌, ◌<◌, suc, Bool, true, false, not, ◌==◌, cond, List, [], ◌∷◌, ◌++◌, length}
-use Rattle.std.proofs.Common.{refl, sym, ap, ◌∙◌, Option, Some, None, arith, take}
+use Rattle.std.proofs.Common.{◌≡◌, ℕ, suc, Bool, true, false, not, ◌==◌, cond, [], ◌∷◌, ◌++◌}
+use Rattle.std.proofs.Common.{refl, sym, ap, ◌∙◌, Some, None, arith, take}
 use Rattle.std.specs.List.{before_first, prefix_len}
 use Rattle.std.specs.Str.{bytes_eq}
 use Rattle.std.proofs.lemmas.Bool.{eqb-true}
@@ -60,7 +60,8 @@ pub renamed : (name text : Text) → Lacks 61 name → after_name name text ≡ 
 renamed [] [] lacks h = absurd cc
 renamed [] (c ∷ rest) lacks h = by_test (c == 61) refl h
   where
-    by_test : (b : Bool) → (c == 61) ≡ b → cond b (Some (Some rest)) None ≡ None → bytes_eq [] (front (c ∷ rest)) ≡ false
+    by_test : (b : Bool) → (c == 61) ≡ b → cond b (Some (Some rest)) None ≡ None
+        → bytes_eq [] (front (c ∷ rest)) ≡ false
     by_test true is e = absurd cc
     by_test false is e = ap (bytes_eq []) (front_more c rest is)
 renamed (n ∷ name) [] lacks h = refl

@@ -1,16 +1,16 @@
 -- What `clap` reads of the words behind a command is what the definition sorts them into.
 use Rattle.std.proofs.Common.{◌≡◌, ℕ, Bool, true, false, ◌==◌, ◌⊎◌, inl, inr, List, [], ◌∷◌, ◌++◌, map, refl, sym, ap}
-use Rattle.std.proofs.Common.{◌∙◌, subst, Option, Some, None, option_map, codes, fold, slice_get, append_assoc, append-nil}
-use Rattle.std.proofs.Common.{drop, length, arith, zero, is_some, ◌<◌, cond, suc, get_or, ◌≢◌, rules as std_rules, String}
+use Rattle.std.proofs.Common.{◌∙◌, subst, Option, Some, None, codes, fold, slice_get, append_assoc, append-nil}
+use Rattle.std.proofs.Common.{drop, arith, zero, is_some, suc, String}
 use Rattle.std.specs.List.{before_first, after_first}
 use Rattle.std.specs.Option.{unwrap_or}
-use Rattle.std.specs.Str.{IsUtf8, bytes_eq, chars}
+use Rattle.std.specs.Str.{IsUtf8, chars}
 use Rattle.std.specs.String.{string_bytes}
 use Rattle.std.specs.declared.alloc.Global.{Global}
 use Rattle.std.proofs.lemmas.Bool.{eqb-true}
 use Rattle.std.proofs.lemmas.Bool.Decides.{nat_tests}
 use Rattle.std.proofs.lemmas.Str.{IsUtf8-drop, IsUtf8-string_bytes, IsCharBoundary-after_ascii, chars-encodes}
-use Rattle.clap.specs.Faults.{walk_fault, turn_fault, settle_fault, default_fault, defaults_fault, check_fault, entered_fault}
+use Rattle.clap.specs.Faults.{walk_fault, settle_fault, default_fault, defaults_fault, check_fault, entered_fault}
 use Rattle.clap.specs.Faults.{fault_of, is_simple_and_free}
 use Rattle.clap.specs.Kinds.{Kinds, HasKind, or_else}
 use Rattle.clap.specs.Lexer.{has_byte}
@@ -78,7 +78,8 @@ Agrees (Some sorted) takes rows from words = IsWhole takes sorted rows from word
 -- ---- one word more
 
 module _ (takes : Bool) (from to : Walk) (word : Text) (rest : List Text) where
-  fault_behind : Turns takes from word to → walk_fault (shape takes) [] from (word ∷ rest) ≡ walk_fault (shape takes) [] to rest
+  fault_behind : Turns takes from word to
+      → walk_fault (shape takes) [] from (word ∷ rest) ≡ walk_fault (shape takes) [] to rest
   unfolding walk_fault
   fault_behind t =
       ap (λ (k : Kinds). or_else k (walk_fault (shape takes) [] (walked (rules takes) [] from word) rest)) (t.0)
@@ -226,7 +227,9 @@ first_char : (d : ℕ) (ds : Text) → IsUtf8 (45 ∷ d ∷ ds) → (x : ℕ) ×
 first_char d ds utf8 = by_text (drop 1 (45 ∷ d ∷ ds)) refl inner
   where
     inner : IsUtf8 (drop 1 (45 ∷ d ∷ ds))
-    inner = IsUtf8-drop (45 ∷ d ∷ ds) 1 utf8 (IsCharBoundary-after_ascii (45 ∷ d ∷ ds) 0 utf8 (omega arith) (omega arith))
+    inner =
+        IsUtf8-drop (45 ∷ d ∷ ds) 1 utf8
+        (IsCharBoundary-after_ascii (45 ∷ d ∷ ds) 0 utf8 (omega arith) (omega arith))
 
     by_text : (text : Text) → text ≡ d ∷ ds → IsUtf8 text → (x : ℕ) × (slice_get (chars (d ∷ ds)) 0 ≡ Some x)
     by_text text is ([], (ok, spelt)) = absurd cc
@@ -256,7 +259,8 @@ module _ (rest : List Text) (more : Sorts rest) where
     Plain word = Agrees (sort takes false (word ∷ rest)) takes (full takes late rows) (at first late rows) (word ∷ rest)
 
     taken_word : (word : Text) → Turns takes (at first late rows) word (at false (a_word word) (full takes late rows))
-        → Agrees (with_word word (sort takes false rest)) takes (full takes late rows) (at first late rows) (word ∷ rest)
+        → Agrees (with_word word (sort takes false rest)) takes (full takes late rows) (at first late rows)
+        (word ∷ rest)
     taken_word word t =
         let base : List Row = full takes late rows in
         one_word takes word base (at first late rows) (word ∷ rest) (sort takes false rest)
@@ -429,10 +433,12 @@ close takes fault last =
     (or_else (entered_fault (built (app takes)) last.stopped)
     (or_else (settle_fault (rules takes) (shape takes).args_override_self last.held)
     (or_else (defaults_fault (settled (rules takes) last.held).rows (rules takes))
-    (check_fault (shape takes) (finished (rules takes) last.held) (is_some (entered (built (app takes)) last.stopped))))))
+    (check_fault (shape takes) (finished (rules takes) last.held)
+    (is_some (entered (built (app takes)) last.stopped))))))
 
 whole_fault : (takes : Bool) (words : List Text)
-    → fault_of (app takes) words ≡ close takes (walk_fault (shape takes) [] (at true nothing []) words) (over takes (at true nothing []) words)
+    → fault_of (app takes) words
+    ≡ close takes (walk_fault (shape takes) [] (at true nothing []) words) (over takes (at true nothing []) words)
 whole_fault true words = refl
 whole_fault false words = refl
 
@@ -476,20 +482,23 @@ are_empty : (takes : Bool) → AreEmpty (rules takes)
 are_empty true = (refl, (refl, tt))
 are_empty false = (refl, tt)
 
+abbrev then_none : Kinds → Kinds
+then_none kinds = or_else kinds []
+
 close_end : (takes trailing first : Bool) (late : Late) (rows : List Row)
     → close takes [] (ended trailing first late rows) ≡ []
-close_end true true first nothing rows = ap (λ (k : Kinds). or_else k []) (no_defaults (rules true) _ (are_empty true))
-close_end true true first (a_word text) rows = ap (λ (k : Kinds). or_else k []) (no_defaults (rules true) _ (are_empty true))
-close_end true true first (a_value text) rows = ap (λ (k : Kinds). or_else k []) (no_defaults (rules true) _ (are_empty true))
-close_end true false first nothing rows = ap (λ (k : Kinds). or_else k []) (no_defaults (rules true) _ (are_empty true))
-close_end true false first (a_word text) rows = ap (λ (k : Kinds). or_else k []) (no_defaults (rules true) _ (are_empty true))
-close_end true false first (a_value text) rows = ap (λ (k : Kinds). or_else k []) (no_defaults (rules true) _ (are_empty true))
-close_end false true first nothing rows = ap (λ (k : Kinds). or_else k []) (no_defaults (rules false) _ (are_empty false))
-close_end false true first (a_word text) rows = ap (λ (k : Kinds). or_else k []) (no_defaults (rules false) _ (are_empty false))
-close_end false true first (a_value text) rows = ap (λ (k : Kinds). or_else k []) (no_defaults (rules false) _ (are_empty false))
-close_end false false first nothing rows = ap (λ (k : Kinds). or_else k []) (no_defaults (rules false) _ (are_empty false))
-close_end false false first (a_word text) rows = ap (λ (k : Kinds). or_else k []) (no_defaults (rules false) _ (are_empty false))
-close_end false false first (a_value text) rows = ap (λ (k : Kinds). or_else k []) (no_defaults (rules false) _ (are_empty false))
+close_end true true first nothing rows = ap then_none (no_defaults (rules true) _ (are_empty true))
+close_end true true first (a_word text) rows = ap then_none (no_defaults (rules true) _ (are_empty true))
+close_end true true first (a_value text) rows = ap then_none (no_defaults (rules true) _ (are_empty true))
+close_end true false first nothing rows = ap then_none (no_defaults (rules true) _ (are_empty true))
+close_end true false first (a_word text) rows = ap then_none (no_defaults (rules true) _ (are_empty true))
+close_end true false first (a_value text) rows = ap then_none (no_defaults (rules true) _ (are_empty true))
+close_end false true first nothing rows = ap then_none (no_defaults (rules false) _ (are_empty false))
+close_end false true first (a_word text) rows = ap then_none (no_defaults (rules false) _ (are_empty false))
+close_end false true first (a_value text) rows = ap then_none (no_defaults (rules false) _ (are_empty false))
+close_end false false first nothing rows = ap then_none (no_defaults (rules false) _ (are_empty false))
+close_end false false first (a_word text) rows = ap then_none (no_defaults (rules false) _ (are_empty false))
+close_end false false first (a_value text) rows = ap then_none (no_defaults (rules false) _ (are_empty false))
 
 end_rows : (takes trailing first : Bool) (late : Late) (rows : List Row)
     → finished (rules takes) (ended trailing first late rows).held ≡ full takes late rows
@@ -532,15 +541,15 @@ module _ (takes : Bool) (words : List Text) where
       → Says o (fault_of (app takes) words) (matches_of (app takes) words)
   says_by None (inl b) = (b.kind, b.kinds, closed_so (b.kind ∷ b.kinds) last b.fault refl)
   says_by None (inr b) =
-      let Open : Bool → Type 0 = λ t. (k : ErrorKind) × (ks : Kinds) × (close t [] (unfinished b.trailing b.left) ≡ k ∷ ks) in
+      let Open : Bool → Type 0 =
+      λ t. (k : ErrorKind) × (ks : Kinds) × (close t [] (unfinished b.trailing b.left) ≡ k ∷ ks) in
       let (k, ks, e) = subst Open (sym b.taken) (close_open b.trailing b.left) in
       (k, ks, closed_so [] (unfinished b.trailing b.left) b.fault b.ends ∙ e)
   says_by (Some sorted) w =
       let end : Walk = ended w.trailing w.first w.late w.left in
       let found : matches_of (app takes) words ≡ full takes w.late w.left =
       whole_rows takes words ∙ ap (λ (x : Walk). finished (rules takes) x.held) w.ends
-      ∙ end_rows takes w.trailing w.first w.late w.left in
-      (
+      ∙ end_rows takes w.trailing w.first w.late w.left in (
         closed_so [] end w.fault w.ends ∙ close_end takes w.trailing w.first w.late w.left,
         (ap (values (codes "word")) found ∙ w.words_are, ap (values (codes "workers")) found ∙ w.values_are),
       )

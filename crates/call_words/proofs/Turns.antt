@@ -1,5 +1,5 @@
 -- What one word does to the walk of `clap` over the words.
-use Rattle.std.proofs.Common.{◌≡◌, ℕ, Bool, true, false, nat_eq, ◌==◌, List, [], ◌∷◌, ◌++◌, refl, sym, ap, ◌∙◌, Option}
+use Rattle.std.proofs.Common.{◌≡◌, ℕ, Bool, true, false, nat_eq, ◌==◌, List, [], ◌∷◌, refl, Option}
 use Rattle.std.proofs.Common.{Some, None, codes, slice_get}
 use Rattle.std.specs.List.{before_first, after_first}
 use Rattle.std.specs.Str.{bytes_eq, chars}
@@ -169,7 +169,8 @@ option_alone false (a_value text) rows = (refl, refl)
 pub option_with : (first : Bool) (late : Late) (rows : List Row) (c : ℕ) (rest value : Text)
     → before_first (λ x. x == 61) (c ∷ rest) ≡ codes "workers" → has_byte 61 (c ∷ rest) ≡ true
     → after_first (λ x. x == 61) (c ∷ rest) ≡ value
-    → Turns true (at first late rows) (45 ∷ 45 ∷ c ∷ rest) (at true nothing (with_more (codes "workers") value (full true late rows)))
+    → Turns true (at first late rows) (45 ∷ 45 ∷ c ∷ rest)
+    (at true nothing (with_more (codes "workers") value (full true late rows)))
 unfolding clap_on_literals
 option_with true nothing rows c rest value e has v = (simp (e, has, v), simp (e, has, v))
 option_with true (a_word text) rows c rest value e has v = (simp (e, has, v), simp (e, has, v))
@@ -233,7 +234,8 @@ letters_wait rows c x rest e is = (UnknownArgument, [], simp (e, is))
 
 pub option_waits : (rows : List Row) (c : ℕ) (rest : Text) → Refuses true (waits rows) (45 ∷ 45 ∷ c ∷ rest)
 unfolding clap_on_literals
-option_waits rows c rest = by_name (bytes_eq (codes "workers") (before_first (λ x. x == 61) (c ∷ rest))) refl (has_byte 61 (c ∷ rest)) refl
+option_waits rows c rest =
+    by_name (bytes_eq (codes "workers") (before_first (λ x. x == 61) (c ∷ rest))) refl (has_byte 61 (c ∷ rest)) refl
   where
     by_name : (b : Bool) → bytes_eq (codes "workers") (before_first (λ x. x == 61) (c ∷ rest)) ≡ b
         → (has : Bool) → has_byte 61 (c ∷ rest) ≡ has → Refuses true (waits rows) (45 ∷ 45 ∷ c ∷ rest)

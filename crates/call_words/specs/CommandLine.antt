@@ -1,5 +1,5 @@
 -- The command line that the program hands to `clap`, and what it reads there.
-use Rattle.std.specs.Prelude.{◌≡◌, ℕ, Bool, true, false, List, [], map, codes, Option, Some, option_map, unwrap_or}
+use Rattle.std.specs.Prelude.{Bool, true, false, List, [], map, codes, Option, Some, option_map, unwrap_or}
 use Rattle.std.specs.Borrow.{Bor}
 use Rattle.clap.specs.Words.{App, Rule, new_app, new_rule, with_rule, found_of, matched_of, raw_values}
 use Rattle.clap.specs.Simple.{on_top}

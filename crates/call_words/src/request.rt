@@ -114,11 +114,7 @@ fn read_run<'a>(alloc: Global, words: &'a [String]) -> Result<Option<Request<'a>
     ensures { IfOk result (λ request. option_map meaning request ≡ spec.read_run (texts words.entry.now)) }
 {
     match sorted(alloc, true, words)? {
-        Some(matches) => run(
-            alloc,
-            matches.get_strs("word"),
-            matches.get_strs("workers"),
-        ),
+        Some(matches) => run(alloc, matches.get_strs("word"), matches.get_strs("workers")),
         None => Ok(None),
     }
 }

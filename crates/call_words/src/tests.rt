@@ -69,7 +69,10 @@ static PLAIN: [(&str, &str); 16] = [
     ("run m.py f -- --", "run 1 m.py f --"),
     ("run m.py f -- -- -x", "run 1 m.py f -- -x"),
     ("run m.py f -- --workers 3", "run 1 m.py f --workers 3"),
-    ("run m.py f --workers 5 -- --workers=3", "run 5 m.py f --workers=3"),
+    (
+        "run m.py f --workers 5 -- --workers=3",
+        "run 5 m.py f --workers=3",
+    ),
     ("run m.py f =", "run 1 m.py f ="),
     ("run run run run", "run 1 run run run"),
 ];
