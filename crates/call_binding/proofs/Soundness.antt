@@ -206,3 +206,8 @@ pub item_sound : (text : List ℕ) (x : Item) → IsUtf8 text → Some x ≡ ite
 item_sound text x u e =
     let P : Option Item → Type 0 = λ o. IfSome o IsSound in
     subst P (sym e) (sides_sound (cut 61 text) (cut_at text u (position (λ b. eqb b 61) text) refl))
+
+-- what a text is read as, where it is read
+pub read_sound : (text : List ℕ) (read : Option Item) → IsUtf8 text → read ≡ item text → IfSome read IsSound
+read_sound text None u e = tt
+read_sound text (Some x) u e = item_sound text x u e

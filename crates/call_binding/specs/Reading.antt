@@ -2,8 +2,9 @@
 -- own; a name
 -- is an ASCII identifier of Python, and may be a keyword.
 use Rattle.std.specs.Prelude.{ℕ, ◌+◌, ◌-◌, ◌^◌, ◌==◌, nat_le, Bool, false, not, ◌&&◌, ◌||◌, if◌then◌else◌, List, []}
-use Rattle.std.specs.Prelude.{◌∷◌, ◌++◌, length, replicate, take, drop, codes, Option, Some, None, option_map, Result}
-use Rattle.std.specs.Prelude.{Ok, Err, ℤ, pos, negsuc}
+use Rattle.std.specs.Prelude.{◌∷◌, ◌++◌, map, length, replicate, take, drop, codes, Option, Some, None, option_map}
+use Rattle.std.specs.Prelude.{Result, Ok, Err, ℤ, pos, negsuc}
+use Rattle.std.specs.Borrow.{Bor}
 use Rattle.std.specs.Char.{is_ascii_alphabetic, is_ascii_alphanumeric}
 use Rattle.std.specs.List.{list_any, position}
 use Rattle.std.specs.Option.{option_and_then}
@@ -182,6 +183,10 @@ by_sides (Some sides) = by_buf sides.0 sides.1 (after (codes "buf:") sides.0)
 -- what an item says; None where it is misspelled, or its array isn't one. 61 is `=`
 abbrev pub item : List ℕ → Option Item
 item text = by_sides (cut 61 text)
+
+-- words as bytes
+abbrev pub texts_of : List (Bor (List ℕ)) → List (List ℕ)
+texts_of words = map (λ word. word.now) words
 
 -- Test 1. The items from number n on, or the number of the first that is misspelled.
 abbrev pub read_next : ℕ → Option Item → Result (List Item) ℕ → Result (List Item) ℕ

@@ -2,7 +2,6 @@
 ghost use Rattle.std.specs.Prelude.{◌≡◌, ◌<◌, ◌≤◌, ◌^◌, ◌∷◌, ◌++◌, [], IfOk, OnOk, IfSome, IsErrOf, List, ℕ, length};
 ghost use Rattle.std.specs.Prelude.{map, Ok, Some, None};
 ghost use Rattle.std.specs.List.{All, filter_map, position};
-ghost use Rattle.std.specs.String.{string_bytes};
 ghost use Rattle.host_io.specs.Counts.{Rose};
 ghost use Rattle.call_binding.specs.Binding as spec;
 ghost use Rattle.call_binding.specs.Binding.{ComesTo, Refused, asked, paths, meaning, HasOneAnswer};
@@ -11,7 +10,7 @@ ghost use Rattle.call_binding.specs.Fitting.{IsFitting, IsSave};
 ghost use Rattle.call_binding.specs.Outcome.{Binds, IsGood, MeetsLong};
 ghost use Rattle.call_binding.specs.Planning.{refusal_of, unfitting_among, late_among, planned_call, IsPlan};
 ghost use Rattle.call_binding.specs.Planning.{IsPlanAmong, IsPlanOf};
-ghost use Rattle.call_binding.specs.Reading.{read_from};
+ghost use Rattle.call_binding.specs.Reading.{read_from, texts_of};
 ghost use Rattle.call_binding.specs.Seen as seen;
 ghost use Rattle.call_binding.specs.Sound.{IsArray, IsSound};
 ghost use Rattle.call_binding.specs.Tests.{early};
@@ -306,7 +305,7 @@ fn bind_words<F: Files>(
     alloc: Global,
     kernels: &[KernelHead],
     kernel: &str,
-    items: &[String],
+    items: &[&str],
     files: &mut F,
 ) -> Result<BoundCall, BindStop>
     requires kernels { length kernels.now < 2 ^ 32 }
@@ -314,7 +313,7 @@ fn bind_words<F: Files>(
     ensures count { F.faults files.old ≤ F.faults files.new }
     ensures kept { (other : List ℕ) → F.held files.new other ≡ F.held files.old other }
     ensures binds { Binds (F.held files.old) (F.faults files.old) (F.faults files.new) kernels.now kernel.now
-        (read_from 1 (map string_bytes items.now)) result }
+        (read_from 1 (texts_of items.now)) result }
     ensures good { IfOk result (IsGood kernels.now kernel.now) }
 {
     match read_items(alloc, items)? {
@@ -346,7 +345,7 @@ pub fn bind<F: Files>(
     alloc: Global,
     kernels: &[KernelHead],
     kernel: &str,
-    items: &[String],
+    items: &[&str],
     files: &mut F,
 ) -> Result<BoundCall, BindStop>
     requires kernels { length kernels.now < 2 ^ 32 }
@@ -358,21 +357,21 @@ pub fn bind<F: Files>(
 
     // The call is the one that the words come to with what their array files hold.
     ensures bound { IfOk result (λ bound.
-        ComesTo (F.held files.old) (asked kernels.now kernel.now (map string_bytes items.now))
+        ComesTo (F.held files.old) (asked kernels.now kernel.now (texts_of items.now))
         (spec.Call (meaning bound))) }
     // An item is refused exactly by the tests, with what the files hold that come before it.
     ensures refused { (n : ℕ) → IsErrOf result (BindStop.Item n) →
-        ComesTo (F.held files.old) (asked kernels.now kernel.now (map string_bytes items.now)) (Refused n) }
+        ComesTo (F.held files.old) (asked kernels.now kernel.now (texts_of items.now)) (Refused n) }
     // A load fails only where the count rose.
     ensures load_failed { IsErrOf result BindStop.LoadFailed → Rose (F.faults files.old) (F.faults files.new) }
     // The file that is to be loaded next is too long.
     ensures too_long { IsErrOf result BindStop.TooLong →
-        MeetsLong (F.held files.old) (asked kernels.now kernel.now (map string_bytes items.now)) }
+        MeetsLong (F.held files.old) (asked kernels.now kernel.now (texts_of items.now)) }
 
     // Where the files are told, the words come to one answer.
     ensures one_answer { AreTold (F.held files.old)
-        (paths (asked kernels.now kernel.now (map string_bytes items.now))) →
-        HasOneAnswer (F.held files.old) (asked kernels.now kernel.now (map string_bytes items.now)) }
+        (paths (asked kernels.now kernel.now (texts_of items.now))) →
+        HasOneAnswer (F.held files.old) (asked kernels.now kernel.now (texts_of items.now)) }
 
     // The call fits its kernel.
     ensures fits { IfOk result (IsFitting kernels.now kernel.now) }

@@ -1,10 +1,9 @@
 //! One item, and all of them.
-ghost use Rattle.std.specs.Prelude.{◌≡◌, ◌<◌, ◌≤◌, ◌^◌, IfOk, option_map, length, map, codes};
+ghost use Rattle.std.specs.Prelude.{◌≡◌, ◌<◌, ◌≤◌, ◌^◌, IfOk, IfSome, option_map, length, map, codes};
 ghost use Rattle.std.specs.List.{All};
-ghost use Rattle.std.specs.String.{string_bytes};
 ghost use Rattle.call_binding.specs.Integers.{each, scalar};
 ghost use Rattle.call_binding.specs.Reading as Reading;
-ghost use Rattle.call_binding.specs.Reading.{item, cut, after, read_from};
+ghost use Rattle.call_binding.specs.Reading.{item, cut, after, read_from, texts_of};
 ghost use Rattle.call_binding.specs.Sound.{IsSound};
 
 use crate::integer::read_integer;
@@ -271,7 +270,8 @@ fn read_sides(alloc: Global, left: &str, right: &str) -> Result<Option<Item>, Al
 
 /// What an item says, or None where it is misspelled or its array isn't one.
 fn read_item(alloc: Global, text: &str) -> Result<Option<Item>, AllocError>
-    ensures { IfOk result (λ read. read ≡ item text.now) }
+    ensures item { IfOk result (λ read. read ≡ item text.now) }
+    ensures sound { IfOk result (λ read. IfSome read IsSound) }
 {
     match cut_equals(text) {
         Some((left, right)) => read_sides(alloc, left, right),
@@ -280,15 +280,15 @@ fn read_item(alloc: Global, text: &str) -> Result<Option<Item>, AllocError>
 }
 
 /// The items of some words, or the number from 1 of the first word that is misspelled.
-pub fn read_items(alloc: Global, texts: &[String]) -> Result<Result<Seq<Item>, u32>, AllocError>
+pub fn read_items(alloc: Global, texts: &[&str]) -> Result<Result<Seq<Item>, u32>, AllocError>
     requires { length texts.now < 2 ^ 32 }
-    ensures items { IfOk result (λ read. read ≡ read_from 1 (map string_bytes texts.now)) }
+    ensures items { IfOk result (λ read. read ≡ read_from 1 (texts_of texts.now)) }
     ensures few { IfOk result (λ read. IfOk read (λ items. length items ≤ length texts.now)) }
     ensures sound { IfOk result (λ read. IfOk read (λ items. All IsSound items)) }
 {
     let mut items = Vec::new(alloc);
     for (at, text) in texts.iter().enumerate() {
-        match read_item(alloc, text.as_str())? {
+        match read_item(alloc, *text)? {
             Some(item) => items.push(item)?,
             None => return Ok(Err(at as u32 + 1)),
         }

@@ -61,9 +61,10 @@ fn head(
     })
 }
 
-/// Kernels of parameters `a` and `b`: one of several signatures, one of matrices and one of rank 4.
+/// Kernels of parameters `a` and `b`: one of several signatures, one of matrices, one of rank 4
+/// and one of words, whose first signature stands twice.
 fn heads(alloc: Global) -> Result<Vec<KernelHead>, AllocError>
-    ensures { IfOk result (λ kernels. vec_len kernels ≡ 6) }
+    ensures { IfOk result (λ kernels. vec_len kernels ≡ 9) }
 {
     let int = ParamType::Scalar(Kind::Int64);
     let truth = ParamType::Scalar(Kind::Bool);
@@ -85,7 +86,12 @@ fn heads(alloc: Global) -> Result<Vec<KernelHead>, AllocError>
         ParamType::Strided(Kind::Bool, 1),
         ParamType::Flat(Kind::Int64, 4),
     )?;
-    Ok(vec![in alloc; first, second, third, fourth, two, four]?)
+    let fifth = head(alloc, "same", int, truth)?;
+    let again = head(alloc, "same", int, truth)?;
+    let truths = head(alloc, "same", truth, truth)?;
+    Ok(vec![in alloc;
+        first, second, third, fourth, two, four, fifth, again, truths,
+    ]?)
 }
 
 fn make_slot(alloc: Global, name: &str, bytes: Vec<u8>) -> Result<Slot, AllocError>
@@ -121,10 +127,10 @@ fn files(alloc: Global, zeros: usize, fails: &[u64]) -> Result<MemFiles, Fail> {
     Ok(MemFiles::new(alloc, slots, Vec::from_slice(alloc, fails)?)?)
 }
 
-fn words(alloc: Global, line: &str) -> Result<Vec<String>, AllocError> {
+fn words(alloc: Global, line: &str) -> Result<Vec<&str>, AllocError> {
     let mut items = Vec::new(alloc);
     for word in line.split_whitespace() {
-        items.push(word.to_string(alloc)?)?;
+        items.push(word)?;
     }
     Ok(items)
 }
@@ -185,6 +191,45 @@ fn binds_the_first_that_fits(rt: HostRuntime) -> Result<(), Fail> {
             Ok(want),
             "{line}"
         );
+    }
+    Ok(())
+}
+
+/// Words that are passed, with the first signature that takes them, or the refused item's number.
+static SCALARS: [(&str, &str, Result<u32, u32>); 18] = [
+    ("one", "b=@A buf:A=1,2 a=False", Ok(1)),
+    ("one", "a=-9223372036854775808 b=@A buf:A=1,2", Ok(0)),
+    ("same", "a=3 b=True", Ok(6)),
+    ("same", "b=False a=0", Ok(6)),
+    ("same", "a=True b=True", Ok(8)),
+    ("one", "buf:A=1 a=@A[0:1] b=5", Err(0)),
+    ("same", "a=3 b=1", Err(0)),
+    ("same", "a=True b=0", Err(0)),
+    ("same", "a=3 b=@A buf:A=True", Err(0)),
+    ("same", "a=3 a=4 b=True", Err(2)),
+    ("same", "a=3 b=True c=1", Err(3)),
+    ("same", "a=5 b=-", Err(2)),
+    ("same", "a=05", Err(1)),
+    ("same", "a=+5", Err(1)),
+    ("same", "a=9223372036854775808", Err(1)),
+    ("same", "a=true", Err(1)),
+    ("same", "a=True,False", Err(1)),
+    ("same", "a=", Err(1)),
+];
+
+#[test]
+fn binds_words(rt: HostRuntime) -> Result<(), Fail> {
+    let alloc = rt.alloc();
+    let kernels = heads(alloc)?;
+    for (kernel, line, want) in SCALARS {
+        let found = outcome(
+            alloc,
+            kernels.as_slice(),
+            kernel,
+            line,
+            files(alloc, 0, &[])?,
+        )?;
+        assert_eq!(rt; found, want.map_err(BindStop::Item), "{line}");
     }
     Ok(())
 }

@@ -1,44 +1,44 @@
 -- What the buffers of a call hold in the end, and what is stored of them.
-use Rattle.std.proofs.Common.{◌≡◌, ◌∙◌, ℕ, suc, arith, ◌<◌, ℤ, Bool, true, false, List, [], ◌∷◌, ◌++◌}
-use Rattle.std.proofs.Common.{map, length, take, Result, Ok, Option, None, slice_get}
-use Rattle.std.proofs.Common.{Err, Some, is_some, refl, sym, ap, subst, IfOk, rules}
-use Rattle.std.proofs.Math.Seq.{take-append_seam}
-use Rattle.std.proofs.lemmas.List.{length-map}
+use Rattle.std.proofs.Common.{◌≡◌, ◌∙◌, ℕ, zero, suc, arith, ◌<◌, ℤ, Bool, List, [], ◌∷◌, map, length, Option, Some}
+use Rattle.std.proofs.Common.{None, slice_get, is_some, refl, sym, ap, subst}
 use Rattle.std.proofs.lemmas.List.Elements.{All-nil, All-cons, All-head, All-tail, All-weaker}
 use Rattle.std.specs.List.{All, AllByRecursion}
-use Rattle.array_ops.specs.Elements.{Bound}
-use Rattle.array_ops.specs.declared.operation.MapOp.{MapOp}
-use Rattle.call_binding.specs.Fitting.{IsSave}
+use Rattle.array_ops.specs.Arrays.{words_of}
+use Rattle.call_binding.specs.Binding.{BoundMeaning}
+use Rattle.call_binding.specs.Fitting.{IsFitting, IsSave}
 use Rattle.call_binding.specs.Sound.{IsArray}
+use Rattle.call_binding.specs.declared.head.BoundCall.{BoundCall}
+use Rattle.call_binding.specs.declared.head.KernelHead.{KernelHead}
 use Rattle.call_binding.specs.declared.head.Save as bound_save
-use Rattle.eager_rules.specs.Blocks.{Meaning, End, GoesOn, Returned, Faulted, Stuck, in_order, then_do}
-use Rattle.eager_rules.specs.Eager.{Calls, statement, meaning, block, bind_all, entered, where_ready, finish}
-use Rattle.eager_rules.specs.Eager.{calls_at}
-use Rattle.eager_rules.specs.Fits.{IsFilled, IsOfKind}
-use Rattle.eager_rules.specs.Outcome.{ended}
-use Rattle.eager_rules.specs.State.{State, bind}
-use Rattle.eager_rules.specs.Works.{made_new}
+use Rattle.call_report.specs.Report.{report_of}
+use Rattle.call_words.specs.declared.request.Command.{Command}
+use Rattle.eager_rules.specs.Fits.{Fits, IsFilled, IsOfKind}
+use Rattle.eager_rules.specs.Kept.{holding, IsKernel}
+use Rattle.eager_rules.specs.Kept as kept
+use Rattle.eager_rules.specs.Outcome.{outcome_of, outcome_by}
+use Rattle.eager_rules.specs.Outcome as outcome
+use Rattle.eager_rules.specs.Sound.{IsTyped}
+use Rattle.eager_rules.specs.State.{bound_to}
+use Rattle.eager_rules.specs.declared.call.Call.{Call}
 use Rattle.eager_rules.specs.declared.outcome.Outcome.{Outcome}
-use Rattle.eager_rules.specs.declared.program.Core.{Core, the_lemmas}
-use Rattle.eager_rules.specs.declared.program.Core.TheOpen as c
-use Rattle.eager_rules.specs.declared.program.Core.TheVariants as core
 use Rattle.eager_rules.specs.declared.program.Instance.{Instance}
-use Rattle.eager_rules.specs.declared.program.Oper.{Oper}
 use Rattle.eager_rules.specs.declared.program.Program.{Program}
 use Rattle.krn_base.specs.declared.kind.Kind.{Kind}
-use Rattle.krn_base.specs.declared.fault.Fault.{Fault}
 use Rattle.krn_base.specs.declared.kind.Kind.TheVariants.{Int64, Bool as BoolKind}
-use Rattle.krn_base.specs.declared.place.Loc.{Loc}
+use Rattle.krn_base.specs.declared.kind.ParamType.{ParamType}
 use Rattle.np_file.specs.Npy.{IsWritable, IsTruth, AreWords}
 use Rattle.view_places.specs.declared.shape.Array.{Array}
-use Rattle.call_binding.specs.Binding.{BoundMeaning}
-use Rattle.call_report.specs.Report.{report_of}
-use Rattle.pythran_main.specs.Answer.{with_words, final_arrays, saved_of, buffer_heads, counts_of, counted}
-use Rattle.pythran_main.specs.Answer.{Product, product_of}
-use Rattle.pythran_main.specs.Kernel.{outcome_in, outcome_at, outcome_on, is_there, are_served}
+use Rattle.pythran_main.specs.Answer.{with_words, final_arrays, saved_of, buffer_heads, counts_by, counted}
+use Rattle.pythran_main.specs.Answer.{head_by, head_of, heads_of, Product, product_of}
+use Rattle.pythran_main.specs.Kernel.{outcome_in, outcome_at, outcome_on}
 use Rattle.pythran_main.specs.Saves.{Save}
-use Rattle.pythran_main.specs.Steps.{KeepsBuffers}
-use Rattle.pythran_main.proofs.Serving.{IsPair, pair_in, served_at, false_true}
+use Rattle.pythran_main.specs.Steps.{IsCall, KeepsBuffers}
+
+none_some : {A : Type 0} (x : A) → None ≡ Some x → ⊥
+none_some x h = cc
+
+some_same : {A : Type 0} (x y : A) → Some x ≡ Some y → x ≡ y
+some_same x y h = cc
 
 -- ---- arrays that may be written
 
@@ -89,142 +89,83 @@ saves_there arrays words saves e h =
     }) saves h
 
 -- what a run makes
-pub product_so : (b : BoundMeaning) (o : Outcome) (text : List ℕ) (fault : Bool) (files : List Save)
-    → text ≡ report_of (buffer_heads b.names b.arrays) o (Some (counts_of o)) → fault ≡ is_some o.fault
+pub product_so : (command : Command) (b : BoundMeaning) (o : Outcome) (text : List ℕ) (fault : Bool) (files : List Save)
+    → text ≡ report_of (buffer_heads b.names b.arrays) o (counts_by command o) → fault ≡ is_some o.fault
     → files ≡ map (saved_of (final_arrays b.arrays o.buffers)) b.saves
     → (let made : Product = record { output = text; has_fault = fault; saves = files } in made)
-    ≡ product_of b (counted o)
-product_so b o text fault files e f g =
-    let p : Product = product_of b (counted o) in
+    ≡ product_of b (counted command o)
+product_so command b o text fault files e f g =
+    let p : Product = product_of b (counted command o) in
     ap (λ (t : List ℕ). let made : Product = record { output = t; has_fault = fault; saves = files } in made) e
     ∙ ap (λ (t : Bool). let made : Product = record { output = p.output; has_fault = t; saves = files } in made) f
     ∙ ap (λ (t : List Save).
     let made : Product = record { output = p.output; has_fault = p.has_fault; saves = t } in made) g
 
--- ---- words that stay
+-- ---- what a run leaves
 
-abbrev words_in : List Array → List (List ℤ)
-words_in arrays = map (λ a. a.words) arrays
+-- each buffer's words fill its array, one after another
+all_filled : (arrays : List Array) (words : List (List ℤ)) → length words ≡ length arrays
+    → ((number : ℕ) (a : Array) → slice_get arrays number ≡ Some a → IsFilled (holding (words_of words number) a))
+    → All IsFilled (final_arrays arrays words)
+all_filled [] words count each = All-nil IsFilled
+all_filled (a ∷ arrays) [] count each = All-nil IsFilled
+all_filled (a ∷ arrays) (w ∷ words) count each =
+    let less : length words ≡ length arrays = omega (arith, count) in
+    All-cons IsFilled (with_words (a, w)) (final_arrays arrays words) (each 0 a refl)
+    (all_filled arrays words less (λ number b is. each (suc number) b is))
 
-same_arrays : (arrays : List Array) → final_arrays arrays (words_in arrays) ≡ arrays
-same_arrays [] = refl
-same_arrays (a ∷ arrays) = ap (λ (rest : List Array). a ∷ rest) (same_arrays arrays)
+pub keeps : (call : Call) (o : Outcome) → kept.KeepsBuffers call o → KeepsBuffers call.buffers o.buffers
+keeps call o k = record { count = k.count; filled = all_filled call.buffers o.buffers k.count k.filled }
 
-kept_words : (arrays : List Array) → All IsFilled arrays → KeepsBuffers arrays (words_in arrays)
-kept_words arrays h = record {
-  count = length-map arrays (λ a. a.words);
-  filled = subst (All IsFilled) (sym (same_arrays arrays)) h;
-}
+-- ---- what a call gives has no strides
 
--- ---- what a short kernel leaves
+by_instance : (program : Program) (call : Call) (o : Option Instance)
+    → outcome_by program.instances call o ≡ outcome_in program.instances call.buffers (map bound_to call.args) o
+by_instance program call None = refl
+by_instance program call (Some f) = refl
 
--- the buffers that stood are the first ones afterwards
-abbrev Extends : List (List ℤ) → List (List ℤ) → Type 0
-Extends xs ys = (more : List (List ℤ)) × (ys ≡ xs ++ more)
+pub as_bound : (program : Program) (kernel : ℕ) (call : Call)
+    → outcome_of program kernel call ≡ outcome_on program kernel call.buffers (map bound_to call.args)
+as_bound program kernel call = by_number (slice_get program.kernels kernel)
+  where
+    by_number : (o : Option ℕ)
+        → outcome.outcome_at program o call ≡ outcome_at program.instances call.buffers (map bound_to call.args) o
+    by_number None = refl
+    by_number (Some number) = by_instance program call (slice_get program.instances number)
 
-abbrev Extending : Meaning State → Type 0
-Extending f = (s : State) → Extends s.buffers (f s).0.buffers
+-- ---- a bound call is one of the program's
 
-nothing_more : (xs : List (List ℤ)) → xs ≡ xs ++ []
-nothing_more [] = refl
-nothing_more (x ∷ xs) = ap (λ (rest : List (List ℤ)). x ∷ rest) (nothing_more xs)
+mapped : {A B : Type 0} (f : A → B) (xs : List A) (k : ℕ) (y : B) → slice_get (map f xs) k ≡ Some y
+    → (x : A) × (slice_get xs k ≡ Some x) × (f x ≡ y)
+mapped f [] k y is = absurd (none_some y is)
+mapped f (x ∷ xs) zero y is = (x, refl, some_same (f x) y is)
+mapped f (x ∷ xs) (suc k) y is = mapped f xs k y is
 
-joined : (xs ys zs : List (List ℤ)) → (xs ++ ys) ++ zs ≡ xs ++ (ys ++ zs)
-joined [] ys zs = refl
-joined (x ∷ xs) ys zs = ap (λ (rest : List (List ℤ)). x ∷ rest) (joined xs ys zs)
+each_one : {A : Type 0} (P : A → Type 0) (xs : List A) (k : ℕ) (x : A) → All P xs → slice_get xs k ≡ Some x → P x
+each_one P [] k x h is = absurd (none_some x is)
+each_one P (y ∷ ys) zero x h is = subst P (some_same y x is) (All-head P y ys h)
+each_one P (y ∷ ys) (suc k) x h is = each_one P ys k x (All-tail P y ys h) is
 
-stays : (xs : List (List ℤ)) → Extends xs xs
-stays xs = ([], nothing_more xs)
+is_there : {A : Type 0} (xs : List A) (k : ℕ) → k < length xs → (x : A) × (slice_get xs k ≡ Some x)
+is_there [] k lt = absurd (omega (arith, lt))
+is_there (x ∷ xs) zero lt = (x, refl)
+is_there (x ∷ xs) (suc k) lt = is_there xs k (omega (arith, lt))
 
-further : (xs ys zs : List (List ℤ)) → Extends xs ys → Extends ys zs → Extends xs zs
-further xs ys zs (a, e) (b, f) =
-    (a ++ b, f ∙ ap (λ (l : List (List ℤ)). l ++ b) e ∙ joined xs a b)
-
-after : (xs : List (List ℤ)) (q : State × End) (next : Meaning State) → Extends xs q.0.buffers → Extending next
-    → Extends xs (then_do q next).0.buffers
-after xs (s, GoesOn) next e n = further xs s.buffers (next s).0.buffers e (n s)
-after xs (s, Returned values) next e n = e
-after xs (s, Faulted fault at) next e n = e
-after xs (s, Stuck) next e n = e
-
-two : (f g : Meaning State) → Extending f → Extending g → Extending (in_order (f ∷ g ∷ []))
-two f g ef eg s =
-    after s.buffers (f s) (in_order (g ∷ [])) (ef s)
-    (λ t. after t.buffers (g t) (in_order []) (eg t) (λ u. stays u.buffers))
-
-where_ready_so : (is_ready : Bool) (q : State × End) (s : State) → Extends s.buffers q.0.buffers
-    → Extends s.buffers (where_ready is_ready q s).0.buffers
-where_ready_so true q s e = e
-where_ready_so false q s e = stays s.buffers
-
-made_so : (to : ℕ) (at : Loc) (words : List ℕ → List ℤ) (shape : Result (List ℕ) Fault) (s : State)
-    → Extends s.buffers (finish (to ∷ []) (made_new s.buffers at words shape) s).0.buffers
-made_so to at words (Ok ns) s = (words ns ∷ [], refl)
-made_so to at words (Err fault) s = stays s.buffers
-
-module _ (calls : Calls) where
-  mapped : (to : ℕ) (op : MapOp) (args : List Oper) (at : Loc) → Extending (meaning calls (core.Map to op args at))
-  mapped to op args at =
-      let same : statement calls (c.Map to op args at) ≡ meaning calls (core.Map to op args at) =
-      search (rules, the_lemmas) in
-      subst Extending same (λ s. where_ready_so _ _ s (made_so to at _ _ s))
-
-  returned : (values : List Oper) → Extending (meaning calls (core.Return values))
-  returned values =
-      let same : statement calls (c.Return values) ≡ meaning calls (core.Return values) =
-      search (rules, the_lemmas) in
-      subst Extending same (λ s. where_ready_so _ _ s (stays s.buffers))
-
-bound_buffers : (to : List ℕ) (values : List Bound) (s : State) → (bind_all to values s).buffers ≡ s.buffers
-bound_buffers to [] s = refl
-bound_buffers [] (value ∷ values) s = refl
-bound_buffers (name ∷ to) (value ∷ values) s = bound_buffers to values (bind name value s)
-
-ended_buffers : (rets : List (Kind × ℕ)) (count : ℕ) (q : State × End)
-    → (ended rets count q).buffers ≡ take count q.0.buffers
-ended_buffers rets count (s, GoesOn) = refl
-ended_buffers rets count (s, Returned values) = refl
-ended_buffers rets count (s, Faulted fault at) = refl
-ended_buffers rets count (s, Stuck) = refl
-
-first_ones : (arrays : List Array) (xs ys : List (List ℤ)) → xs ≡ words_in arrays → Extends xs ys
-    → take (length arrays) ys ≡ words_in arrays
-first_ones arrays xs ys e (more, f) =
-    let words : List (List ℤ) = words_in arrays in
-    let count : length arrays ≡ length words = sym (length-map arrays (λ a. a.words)) in
-    ap (λ (l : List (List ℤ)). take (length arrays) l) (f ∙ ap (λ (l : List (List ℤ)). l ++ more) e)
-    ∙ ap (λ (n : ℕ). take n (words ++ more)) count ∙ take-append_seam words more
-
-module _ (program : Program) (served : are_served program ≡ true) (kernel : ℕ) (arrays : List Array)
-    (args : List Bound) where
-  left_instance : (o : Option Instance) → is_there o ≡ true
-      → (outcome_in program.instances arrays args o).buffers ≡ words_in arrays
-  left_instance None h = absurd (false_true h)
-  left_instance (Some f) h =
-      let p : IsPair f.body = pair_in f.params f.body h in
-      let calls : Calls = calls_at program.instances (length program.instances) in
-      let start : State = entered f args (words_in arrays) in
-      ended_buffers f.rets (length arrays) (block calls f.body start)
-      ∙ first_ones arrays start.buffers (block calls f.body start).0.buffers (bound_buffers _ args _)
-      (subst (λ (body : List Core). Extends start.buffers (block calls body start).0.buffers) (sym p.is)
-      (two (meaning calls (core.Map p.to p.op p.args p.at)) (meaning calls (core.Return p.values))
-      (mapped calls p.to p.op p.args p.at) (returned calls p.values) start))
-
-  left_number : (o : Option ℕ) → slice_get program.kernels kernel ≡ o
-      → (outcome_at program.instances arrays args o).buffers ≡ words_in arrays
-  left_number None is = refl
-  left_number (Some number) is =
-      left_instance (slice_get program.instances number)
-      (served_at program.instances program.kernels kernel number served is)
-
-  left : (outcome_on program kernel arrays args).buffers ≡ words_in arrays
-  left = left_number (slice_get program.kernels kernel) refl
-
-pub keeps_buffers : {E : Type 0} (program : Program) → are_served program ≡ true → (kernel : ℕ) (arrays : List Array)
-    (args : List Bound) (made : Result Outcome E) → All IsFilled arrays
-    → IfOk made (λ o. o ≡ outcome_on program kernel arrays args) → IfOk made (λ o. KeepsBuffers arrays o.buffers)
-keeps_buffers program served kernel arrays args (Err e) filled is = tt
-keeps_buffers program served kernel arrays args (Ok o) filled is =
-    let same : words_in arrays ≡ o.buffers =
-    sym (ap (λ (x : Outcome). x.buffers) is ∙ left program served kernel arrays args) in
-    subst (KeepsBuffers arrays) same (kept_words arrays filled)
+-- what binding relies on holds of the call of a bound kernel
+pub called : (program : Program) (heads : List KernelHead) (name : List ℕ) (bound : BoundCall) → IsTyped program
+    → heads ≡ heads_of program → IsFitting heads name bound → IsCall program bound.kernel bound.call
+called program heads name bound typed same fitting =
+    let At : List KernelHead → Type 0 = λ hs. slice_get hs bound.kernel ≡ Some fitting.head in
+    let (number, numbered, head_is) = mapped (head_of program.instances) program.kernels bound.kernel fitting.head
+    (subst At same fitting.is_there) in
+    let within : number < length program.instances = each_one (λ n. n < length program.instances) program.kernels
+    bound.kernel number typed.kernels numbered in
+    let (f, there) = is_there program.instances number within in
+    let params : fitting.head.params ≡ f.params =
+    ap (λ (h : KernelHead). h.params) (sym head_is) ∙ ap (λ (o : Option Instance). (head_by o).params) there in
+    let Fit : List (List ℕ × ParamType) → Type 0 = λ ps. Fits (map (λ p. p.1) ps) bound.call in
+    record {
+      instance = f;
+      is = record { number = number; numbered = numbered; there = there };
+      fits = subst Fit params fitting.fits;
+    }

@@ -1,6 +1,5 @@
 pub mod Buffers
 mod Layers
-mod Lists
 pub mod Loads
 pub mod Modules
 pub mod Saves

@@ -22,7 +22,7 @@ use Rattle.pythran_main.specs.Answer.{answer_of, IsCalled, IsFollowed, IsRead, A
 use Rattle.pythran_main.specs.Answer as answer
 use Rattle.pythran_main.specs.Loads.{Content, Whole, Longer, Loaded, Gives}
 use Rattle.pythran_main.specs.Reading.{IsOneReading}
-use Rattle.pythran_main.specs.Request.{Asked}
+use Rattle.call_words.specs.Request.{Asked}
 use Rattle.pythran_main.specs.Steps.{Prepared, Prepares, CallsTo, LeadsTo, IsUnloaded, stopped}
 use Rattle.pythran_main.specs.World.{Filed, AreKept, files_of}
 use Rattle.pythran_main.specs.declared.answer.Report.{Report}
@@ -127,13 +127,18 @@ not_loaded asked files _ h = absurd h
 -- ---- what binding comes to
 
 module _ (asked : Asked) (source : Source) (held : List ℕ → Held) (heads : List KernelHead)
-    (same : heads ≡ source.heads)
-    (one : AreTold held (array_files asked) → HasOneAnswer held (binding.asked heads asked.kernel asked.items)) where
+    (same : heads ≡ source.heads) (words : List (List ℕ)) (same_words : words ≡ asked.items)
+    (one : AreTold held (binding.paths (binding.asked [] asked.kernel words))
+    → HasOneAnswer held (binding.asked heads asked.kernel words)) where
   the_one : AreTold held (array_files asked) → HasOneAnswer held (to_bind asked source)
   the_one told =
-      subst (λ (h : List KernelHead). HasOneAnswer held (binding.asked h asked.kernel asked.items)) same (one told)
+      let Told : List (List ℕ) → Type 0 = λ ws. AreTold held (binding.paths (binding.asked [] asked.kernel ws)) in
+      let answer : HasOneAnswer held (binding.asked source.heads asked.kernel words) =
+      subst (λ (h : List KernelHead). HasOneAnswer held (binding.asked h asked.kernel words)) same
+      (one (subst Told (sym same_words) told)) in
+      subst (λ (ws : List (List ℕ)). HasOneAnswer held (binding.asked source.heads asked.kernel ws)) same_words answer
 
-  pub bound_so : (b : Binding) (a : Answer) → ComesTo held (binding.asked heads asked.kernel asked.items) b
+  pub bound_so : (b : Binding) (a : Answer) → ComesTo held (binding.asked heads asked.kernel words) b
       → Ends held b → a ≡ answer_of source b → CallsTo asked source held a
   bound_so b a comes ends is = record {
     arrays = c.reads;
@@ -143,24 +148,26 @@ module _ (asked : Asked) (source : Source) (held : List ℕ → Held) (heads : L
   }
     where
       c : ComesTo held (to_bind asked source) b
-      c = subst (λ (h : List KernelHead). ComesTo held (binding.asked h asked.kernel asked.items) b) same comes
+      c =
+          subst (λ (ws : List (List ℕ)). ComesTo held (binding.asked source.heads asked.kernel ws) b) same_words
+          (subst (λ (h : List KernelHead). ComesTo held (binding.asked h asked.kernel words) b) same comes)
 
-  long_so : (path : List ℕ) → ComesTo held (binding.asked heads asked.kernel asked.items) (Asks path)
+  long_so : (path : List ℕ) → ComesTo held (binding.asked heads asked.kernel words) (Asks path)
       → IsTooLong (held path) → CallsTo asked source held answer.TooLong
   long_so path comes long = bound_so (Asks path) answer.TooLong comes long refl
 
   -- items that make no call
   pub stopped_so : (before after : ℕ) (result : Result BoundCall BindStop) (s : BindStop) → result ≡ Err s
       → ((n : ℕ) → IsErrOf result (stop.Item n)
-      → ComesTo held (binding.asked heads asked.kernel asked.items) (Refused n))
+      → ComesTo held (binding.asked heads asked.kernel words) (Refused n))
       → (IsErrOf result stop.LoadFailed → Rose before after)
-      → (IsErrOf result stop.TooLong → MeetsLong held (binding.asked heads asked.kernel asked.items))
+      → (IsErrOf result stop.TooLong → MeetsLong held (binding.asked heads asked.kernel words))
       → Prepared before after (CallsTo asked source held) (Err (stopped s))
   stopped_so before after result (stop.Item n) is refused failed long =
       bound_so (Refused n) (answer.RefusedItem n) (refused n is) tt refl
   stopped_so before after result stop.LoadFailed is refused failed long = failed is
   stopped_so before after result stop.TooLong is refused failed long =
-      let m : MeetsLong held (binding.asked heads asked.kernel asked.items) = long is in
+      let m : MeetsLong held (binding.asked heads asked.kernel words) = long is in
       long_so m.path m.comes m.long
   stopped_so before after result stop.Memory is refused failed long = tt
 
@@ -169,28 +176,31 @@ module _ (asked : Asked) (source : Source) (held : List ℕ → Held) (heads : L
 module _ (asked : Asked) (file : List ℕ) where
   -- another answer follows from the same reading
   followed : (held : List ℕ → Held) (read : Result Program Refusal) (arrays : List (Option Array)) (other : Answer)
-      → IsOneReading file read → IsRead asked held (Whole file) arrays other
-      → IsFollowed asked held (source_in read) arrays other
+      → IsOneReading asked.command file read → IsRead asked held (Whole file) arrays other
+      → IsFollowed asked held (source_in asked.command read) arrays other
   followed held read arrays other one (found, (as_read, reading, is), follows) =
       let P : Result Source Refusal → Type 0 = λ x. IsFollowed asked held x arrays other in
-      let Q : Result Program Refusal → Type 0 = λ x. IsFollowed asked held (source_in x) arrays other in
+      let Q : Result Program Refusal → Type 0 = λ x. IsFollowed asked held (source_in asked.command x) arrays other in
       subst Q (one.alone as_read reading) (subst P is follows)
 
-  module _ (k : Program) (one : IsOneReading file (Ok k)) where
+  module _ (k : Program) (one : IsOneReading asked.command file (Ok k)) where
+    abbrev source : Source
+    source = source_of asked.command k
+
     abbrev bound : List (Option Array) → Binding
-    bound arrays = bind (source_of k).heads asked.kernel asked.items arrays
+    bound arrays = bind source.heads asked.kernel asked.items arrays
 
     is_answer : (held : List ℕ → Held) (arrays : List (Option Array)) → AreRead held (array_files asked) arrays
-        → Ends held (bound arrays) → IsAnswer held (to_bind asked (source_of k)) (bound arrays)
+        → Ends held (bound arrays) → IsAnswer held (to_bind asked source) (bound arrays)
     is_answer held arrays read ends =
         record { comes = record { reads = arrays; are_read = read; is = refl }; ends = ends }
 
-    called : (held : List ℕ → Held) (a : Answer) → CallsTo asked (source_of k) held a
+    called : (held : List ℕ → Held) (a : Answer) → CallsTo asked source held a
         → LeadsTo asked (Whole file) held a
     called held a c = record {
       arrays = c.arrays;
       are_read = c.are_read;
-      answer = (Ok (source_of k), (Ok k, one.gives, refl), c.called);
+      answer = (Ok source, (Ok k, one.gives, refl), c.called);
       alone = alone;
     }
       where
@@ -199,23 +209,23 @@ module _ (asked : Asked) (file : List ℕ) where
             → AreRead held (array_files asked) others → Ends held (bound others) → bound others ≡ bound c.arrays
         same others (inl is) read ends = ap bound is
         same others (inr told) read ends =
-            c.one (told (source_of k, (Ok k, one.gives, refl))) (bound others) (bound c.arrays)
+            c.one (told (source_of asked.command k, (Ok k, one.gives, refl))) (bound others) (bound c.arrays)
             (is_answer held others read ends) (is_answer held c.arrays c.are_read (c.called.0))
 
         alone : (others : List (Option Array)) (other : Answer)
             → (others ≡ c.arrays) ⊎ (Stands asked (Whole file) → AreTold held (array_files asked))
             → AreRead held (array_files asked) others → IsRead asked held (Whole file) others other → other ≡ a
         alone others other agree read h =
-            let f : IsCalled held (source_of k) (bound others) other = followed held (Ok k) others other one h in
-            f.1 ∙ ap (answer_of (source_of k)) (same others agree read (f.0)) ∙ sym (c.called.1)
+            let f : IsCalled held source (bound others) other = followed held (Ok k) others other one h in
+            f.1 ∙ ap (answer_of source) (same others agree read (f.0)) ∙ sym (c.called.1)
 
-    pub called_so : (files : Filed) (r : Result Report Trouble) → Prepares (CallsTo asked (source_of k)) files r
+    pub called_so : (files : Filed) (r : Result Report Trouble) → Prepares (CallsTo asked source) files r
         → Prepares (LeadsTo asked (Whole file)) files r
     called_so files r p =
         prepared_as files.faults_before files.faults_after files.faults_before files.faults_after _ _ r (λ h. h)
         (λ a c. called files.before a c) p
 
-  pub refused_alone : (held : List ℕ → Held) (r : Refusal) → IsOneReading file (Err r)
+  pub refused_alone : (held : List ℕ → Held) (r : Refusal) → IsOneReading asked.command file (Err r)
       → LeadsTo asked (Whole file) held (answer.Refused r)
   refused_alone held r one = record {
     arrays = [];

@@ -1,4 +1,4 @@
--- Each layer has one reading, and a module that is read is served.
+-- Each layer has one reading.
 use Rattle.std.proofs.Common.{◌≡◌, ℕ, true, List, [], refl, sym, ◌∙◌, ap, subst, Option, Some, None, Result, Ok, Err}
 use Rattle.std.specs.Result.{OnOk, IfErr}
 use Rattle.krn_base.specs.declared.place.Loc.{Loc}
@@ -18,10 +18,8 @@ use Rattle.py_lex.specs.Lexed as lexed
 use Rattle.py_lex.specs.declared.token.Tokens.{Tokens}
 use Rattle.py_parse.specs.Parsed as parsed
 use Rattle.py_parse.specs.declared.tree.Module.{Module}
-use Rattle.pythran_main.specs.Kernel.{unserved, are_served}
 use Rattle.pythran_main.specs.Layers.{IsOne}
 use Rattle.pythran_main.specs.Reading.{Lexes, Parses, Lists, Tests, Types, Serves, served_by, Answered, IsReading}
-use Rattle.pythran_main.proofs.Serving.{all_served}
 
 -- ---- each layer has one reading
 
@@ -155,57 +153,3 @@ typed_so routines same signatures alike result e k is =
     let P : List Routine → Type 0 = λ r. IsProgramOf r alike result in
     let Q : List Numbered → Type 0 = λ s. IsProgramOf routines s result in
     typed routines signatures result (subst Q k (subst P e is))
-
--- ---- a module that is read is served
-
-some_ok : (program : Program) (at : Loc) (other : Program) → served_by program (Some at) ≡ Ok other → ⊥
-some_ok program at other h = cc
-
-none_ok : (program other : Program) → served_by program None ≡ Ok other → program ≡ other
-none_ok program other h = cc
-
-module _ (signatures : List Signature) (directives : List Directive) where
-  served_so : (p program : Program) → Serves signatures directives p (Ok program) → are_served program ≡ true
-  served_so p program h = by_first (soonest None (unserved signatures directives p)) refl h
-    where
-      by_first : (o : Option Loc) → soonest None (unserved signatures directives p) ≡ o
-          → served_by p o ≡ Ok program → are_served program ≡ true
-      by_first None is same =
-          subst (λ (x : Program). are_served x ≡ true) (none_ok p program same) (all_served signatures directives p is)
-      by_first (Some at) is same = absurd (some_ok p at program same)
-
-pub read_is_served : (file : List ℕ) (program : Program) → IsReading file (Ok program) → are_served program ≡ true
-read_is_served file program (
-  ts,
-  l,
-  (
-    tree,
-    t,
-    (
-      signatures,
-      s,
-      (
-        directives,
-        d,
-        (
-          f,
-          forms,
-          (
-            n,
-            named,
-            (
-              c,
-              chained,
-              (
-                p,
-                typed,
-                serves,
-              ),
-            ),
-          ),
-        ),
-      ),
-    ),
-  ),
-) =
-    served_so signatures directives p program serves

@@ -12,7 +12,7 @@ use Rattle.host_io.specs.declared.files.Files as files_trait
 use Rattle.pythran_main.specs.Answer.{Answer, Product, Reaches}
 use Rattle.pythran_main.specs.Answer as answer
 use Rattle.pythran_main.specs.Ending.{IsAnswered}
-use Rattle.pythran_main.specs.Request.{Asked, request}
+use Rattle.call_words.specs.Request.{Asked, request}
 use Rattle.pythran_main.specs.Saves.{Save, with_save, with_saves}
 use Rattle.pythran_main.specs.Steps.{Delivers, Works}
 use Rattle.pythran_main.specs.World.{Written, AreKept, AreStored, BrokeOff, files_of}

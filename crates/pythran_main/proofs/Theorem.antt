@@ -4,7 +4,7 @@ use Rattle.pythran_main.specs.Answer.{Answer, Answers, AreFilesTold, Reaches}
 use Rattle.pythran_main.specs.Answer as answer
 use Rattle.pythran_main.specs.Ending.{IsAnswered, Causes, IsTold, IsDone, Ends, status_of, status_at}
 use Rattle.pythran_main.specs.Loads.{Loaded}
-use Rattle.pythran_main.specs.Request.{Asked, request}
+use Rattle.call_words.specs.Request.{Asked, request}
 use Rattle.pythran_main.specs.Steps.{Works, Tells, IsWorded, TellsOf}
 use Rattle.pythran_main.specs.Theorem.{Serves, IsComplete}
 use Rattle.pythran_main.specs.World.{World, NoneRose}
@@ -22,8 +22,8 @@ module _ (words : List (List ℕ)) (w : World) where
 
   -- where memory for the text is wanting, nothing was written before
   no_text : (t : Trouble) → IsWorded t → Causes words w.files w.out t → Causes words w.files w.out Memory
-  no_text (Refused r) worded c = record { asked = c.answered.asked; asks = c.answered.asks; still = c.still }
-  no_text (RefusedItem n) worded c = record { asked = c.answered.asked; asks = c.answered.asks; still = c.still }
+  no_text (Refused r) worded c = c.still
+  no_text (RefusedItem n) worded c = c.still
   no_text _ worded c = absurd worded
 
   pub ended_so : (t : Trouble) (status : ℕ) → Works words w.files w.out (Err t) → TellsOf t w.err status

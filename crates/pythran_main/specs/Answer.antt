@@ -16,12 +16,14 @@ use Rattle.call_binding.specs.declared.head.KernelHead.{KernelHead}
 use Rattle.call_binding.specs.declared.head.Save as bound_save
 use Rattle.call_report.specs.Report.{report_of}
 use Rattle.call_report.specs.declared.head.BufferHead.{BufferHead}
+use Rattle.call_words.specs.declared.request.Command.{Command}
+use Rattle.call_words.specs.declared.request.Command.TheVariants as command
 use Rattle.host_io.specs.Files.{Held}
 use Rattle.np_file.specs.Npy.{npy_text}
 use Rattle.pythran_main.specs.Kernel.{outcome_on}
 use Rattle.pythran_main.specs.Loads.{Content, Whole, Longer, Gives, Loaded}
 use Rattle.pythran_main.specs.Reading.{IsReading}
-use Rattle.pythran_main.specs.Request.{Asked}
+use Rattle.call_words.specs.Request.{Asked}
 use Rattle.pythran_main.specs.Saves.{Save}
 
 -- what a command writes on the output, whether that has a fault line, and what it stores
@@ -80,7 +82,7 @@ product_of b run = record {
   saves = map (saved_of (final_arrays b.arrays run.outcome.buffers)) b.saves;
 }
 
--- ---- the sources of `run`
+-- ---- the sources of a command
 
 -- what binding needs of the kernel whose instance has this number
 abbrev pub head_by : Option Instance → KernelHead
@@ -97,23 +99,29 @@ heads_of program = map (head_of program.instances) program.kernels
 abbrev pub counts_of : Outcome → Counts
 counts_of outcome = record { nests = if is_some outcome.fault then 0 else 1; temps = 0; parallel = 0; serial = 0 }
 
--- evaluated eagerly, with those counts
-abbrev pub counted : Outcome → Run
-counted outcome = record { outcome = outcome; counts = Some (counts_of outcome) }
+-- `run` counts, and `eager` counts nothing
+abbrev pub counts_by : Command → Outcome → Option Counts
+counts_by (command.Run workers) outcome = Some (counts_of outcome)
+counts_by command.Eager outcome = None
 
-abbrev pub source_of : Program → Source
-source_of program = record {
+-- evaluated eagerly, with the command's counts
+abbrev pub counted : Command → Outcome → Run
+counted command outcome = record { outcome = outcome; counts = counts_by command outcome }
+
+abbrev pub source_of : Command → Program → Source
+source_of command program = record {
   heads = heads_of program;
-  run = λ b. counted (outcome_on program b.kernel b.arrays b.args);
+  run = λ b. counted command (outcome_on program b.kernel b.arrays b.args);
 }
 
-abbrev pub source_in : Result Program Refusal → Result Source Refusal
-source_in (Ok program) = Ok (source_of program)
-source_in (Err r) = Err r
+abbrev pub source_in : Command → Result Program Refusal → Result Source Refusal
+source_in command (Ok program) = Ok (source_of command program)
+source_in command (Err r) = Err r
 
 -- the bytes of a request's source stand for this to it
 abbrev pub IsSource : Asked → List ℕ → Result Source Refusal → Type 0
-IsSource asked file found = (read : Result Program Refusal) × IsReading file read × (found ≡ source_in read)
+IsSource asked file found =
+    (read : Result Program Refusal) × IsReading asked.command file read × (found ≡ source_in asked.command read)
 
 -- ---- the steps of an answer, each by what is loaded for it
 

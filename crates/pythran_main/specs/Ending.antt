@@ -7,7 +7,7 @@ use Rattle.krn_base.specs.Rule.{rule_name}
 use Rattle.krn_base.specs.declared.refusal.Refusal.{Refusal}
 use Rattle.pythran_main.specs.Answer.{Answer, Product, Reaches}
 use Rattle.pythran_main.specs.Answer as answer
-use Rattle.pythran_main.specs.Request.{Asked, request}
+use Rattle.call_words.specs.Request.{Asked, request}
 use Rattle.pythran_main.specs.World.{Written, Filed, World, IsUntouched, Gained, Broke, AreKept, AreStored, BrokeOff}
 use Rattle.pythran_main.specs.declared.trouble.Trouble.{Trouble}
 use Rattle.pythran_main.specs.declared.trouble.Trouble.TheVariants.{NoRequest, Refused, RefusedItem, LoadFailed}
@@ -65,12 +65,6 @@ pub record IsNoRequest (words : List (List ℕ)) (files : Filed) (out : Written)
   pub none : request words ≡ None
   pub still : IsStill files out
 
--- The words are a request, for which memory was wanting.
-pub record IsOutOfMemory (words : List (List ℕ)) (files : Filed) (out : Written) : Type 0 where
-  pub asked : Asked
-  pub asks : request words ≡ Some asked
-  pub still : IsStill files out
-
 -- The words are a request, and the files' count of faults rose.
 pub record IsNotLoaded (words : List (List ℕ)) (files : Filed) (out : Written) : Type 0 where
   pub asked : Asked
@@ -100,7 +94,7 @@ Causes words files out (RefusedItem n) = IsStopped words files out (answer.Refus
 Causes words files out LoadFailed = IsNotLoaded words files out
 Causes words files out WriteFailed = IsNotWritten words files out
 Causes words files out StoreFailed = IsNotStored words files out
-Causes words files out Memory = IsOutOfMemory words files out
+Causes words files out Memory = IsStill files out
 Causes words files out TooLong = IsStopped words files out answer.TooLong
 
 -- A trouble has its cause, and its text is on the error output.

@@ -1,7 +1,6 @@
 -- What a call of a program's kernel gives, and the kernels that are served so far.
 use Rattle.std.specs.Prelude.{ℕ, ◌+◌, ◌==◌, Bool, true, false, ◌&&◌, if◌then◌else◌, List, [], ◌∷◌, ◌++◌, map}
 use Rattle.std.specs.Prelude.{length, slice_get, Option, Some, None}
-use Rattle.std.specs.List.{list_all}
 use Rattle.krn_base.specs.declared.kind.ParamType.{ParamType}
 use Rattle.krn_base.specs.declared.kind.ParamType.TheVariants.{Scalar, Flat, Strided}
 use Rattle.krn_base.specs.declared.operation.BinOp.{BinOp}
@@ -11,6 +10,8 @@ use Rattle.view_places.specs.declared.shape.Array.{Array}
 use Rattle.array_ops.specs.Elements.{Bound}
 use Rattle.array_ops.specs.declared.operation.MapOp.{MapOp}
 use Rattle.array_ops.specs.declared.operation.MapOp.TheVariants.{Bin}
+use Rattle.call_words.specs.declared.request.Command.{Command}
+use Rattle.call_words.specs.declared.request.Command.TheVariants.{Run, Eager}
 use Rattle.eager_rules.specs.Eager.{block, calls_at, entered}
 use Rattle.eager_rules.specs.Outcome.{ended}
 use Rattle.eager_rules.specs.declared.outcome.Outcome.{Outcome}
@@ -103,18 +104,6 @@ is_there None = false
 abbrev pub is_served : List Instance → ℕ → Bool
 is_served instances number = is_there (slice_get instances number)
 
--- the program of the instance with this number alone, where it is there
-abbrev pub alone_with : Option Instance → Program
-alone_with (Some f) = record { instances = f ∷ []; kernels = 0 ∷ [] }
-alone_with None = record { instances = []; kernels = [] }
-
-abbrev pub alone_at : List Instance → Option ℕ → Program
-alone_at instances (Some number) = alone_with (slice_get instances number)
-alone_at instances None = alone_with None
-
-abbrev pub alone : Program → ℕ → Program
-alone program kernel = alone_at program.instances (slice_get program.kernels kernel)
-
 -- ---- the places of what isn't served
 
 -- the place of a kernel's note, by the kernel's number; each kernel has one
@@ -138,11 +127,13 @@ kernel_marks signatures instances number (kernel ∷ kernels) =
 abbrev pub directive_mark : Directive → Option Loc
 directive_mark directive = Some directive.loc
 
--- the export notes of kernels that aren't short, and the directive notes
-abbrev pub unserved : List Signature → List Directive → Program → List (Option Loc)
-unserved signatures directives program =
-    kernel_marks signatures program.instances 0 program.kernels ++ map directive_mark directives
+-- the export notes of kernels that a command doesn't serve
+abbrev pub unserved_kernels : Command → List Signature → Program → List (Option Loc)
+unserved_kernels (Run workers) signatures program = kernel_marks signatures program.instances 0 program.kernels
+unserved_kernels Eager signatures program = []
 
--- each kernel is served
-abbrev pub are_served : Program → Bool
-are_served program = list_all (is_served program.instances) program.kernels
+-- the notes of what a command doesn't serve: for `run` the export notes of kernels that aren't short, and for each
+-- command the directive notes
+abbrev pub unserved : Command → List Signature → List Directive → Program → List (Option Loc)
+unserved command signatures directives program =
+    unserved_kernels command signatures program ++ map directive_mark directives

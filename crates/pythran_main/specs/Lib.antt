@@ -4,7 +4,6 @@ pub mod Kernel
 pub mod Layers
 pub mod Loads
 pub mod Reading
-pub mod Request
 pub mod Saves
 pub mod Steps
 pub mod Theorem

@@ -1,4 +1,4 @@
--- What the bytes of a module are read as: a program, or the refusal of the first layer that refuses them.
+-- What the bytes of a module are read as by a command: a program, or the refusal of the first layer that refuses them.
 use Rattle.std.specs.Prelude.{◌≡◌, ℕ, [], List, map, length, Option, Some, None, Result, Ok, Err}
 use Rattle.krn_base.specs.declared.place.Loc.{Loc}
 use Rattle.krn_base.specs.declared.refusal.Refusal.{Refusal}
@@ -10,6 +10,7 @@ use Rattle.array_types.specs.Modules.{program_of}
 use Rattle.array_types.specs.declared.state.Signature.{Signature as Numbered}
 use Rattle.call_chains.specs.Calls.{own_calls, number_of}
 use Rattle.call_chains.specs.Chains as chains
+use Rattle.call_words.specs.declared.request.Command.{Command}
 use Rattle.eager_rules.specs.declared.program.Program.{Program}
 use Rattle.export_sig.specs.Directives.{AreDirectives, IsDirectiveRefusal}
 use Rattle.export_sig.specs.Exports.{AreExports, IsExportRefusal}
@@ -84,42 +85,44 @@ abbrev pub Types : Module → List Signature → List Directive → Result Progr
 Types tree signatures directives found =
     program_of (routines tree directives) (map (numbered tree) signatures) ≡ found
 
--- a program that is served, or the first note of what isn't
+-- a program that a command serves, or the first note of what it doesn't
 abbrev pub served_by : Program → Option Loc → Result Program Refusal
 served_by program None = Ok program
 served_by program (Some at) = Err (record { rule = Profile; loc = at })
 
-abbrev pub Serves : List Signature → List Directive → Program → Result Program Refusal → Type 0
-Serves signatures directives program found =
-    served_by program (soonest None (unserved signatures directives program)) ≡ found
+abbrev pub Serves : Command → List Signature → List Directive → Program → Result Program Refusal → Type 0
+Serves command signatures directives program found =
+    served_by program (soonest None (unserved command signatures directives program)) ≡ found
 
 -- the layers behind the tests, the directives, the signatures, the tree and the tokens
-abbrev pub IsTypedReading : Module → List Signature → List Directive → Result Program Refusal → Type 0
-IsTypedReading tree signatures directives =
-    Then (Types tree signatures directives) (Serves signatures directives)
+abbrev pub IsTypedReading : Command → Module → List Signature → List Directive → Result Program Refusal → Type 0
+IsTypedReading command tree signatures directives =
+    Then (Types tree signatures directives) (Serves command signatures directives)
 
-abbrev pub IsNamedReading : Module → List Signature → List Directive → Result Program Refusal → Type 0
-IsNamedReading tree signatures directives =
-    Then (Chains tree signatures) (λ _. IsTypedReading tree signatures directives)
+abbrev pub IsNamedReading : Command → Module → List Signature → List Directive → Result Program Refusal → Type 0
+IsNamedReading command tree signatures directives =
+    Then (Chains tree signatures) (λ _. IsTypedReading command tree signatures directives)
 
-abbrev pub IsFormedReading : Module → List Signature → List Directive → Result Program Refusal → Type 0
-IsFormedReading tree signatures directives = Then (Names tree) (λ _. IsNamedReading tree signatures directives)
+abbrev pub IsFormedReading : Command → Module → List Signature → List Directive → Result Program Refusal → Type 0
+IsFormedReading command tree signatures directives =
+    Then (Names tree) (λ _. IsNamedReading command tree signatures directives)
 
-abbrev pub IsDirectedReading : Module → List Signature → List Directive → Result Program Refusal → Type 0
-IsDirectedReading tree signatures directives = Then (Forms tree) (λ _. IsFormedReading tree signatures directives)
+abbrev pub IsDirectedReading : Command → Module → List Signature → List Directive → Result Program Refusal → Type 0
+IsDirectedReading command tree signatures directives =
+    Then (Forms tree) (λ _. IsFormedReading command tree signatures directives)
 
-abbrev pub IsExportedReading : Module → List Signature → Result Program Refusal → Type 0
-IsExportedReading tree signatures = Then (Directs tree) (IsDirectedReading tree signatures)
+abbrev pub IsExportedReading : Command → Module → List Signature → Result Program Refusal → Type 0
+IsExportedReading command tree signatures = Then (Directs tree) (IsDirectedReading command tree signatures)
 
-abbrev pub IsTreeReading : Module → Result Program Refusal → Type 0
-IsTreeReading tree = Then (Exports tree) (IsExportedReading tree)
+abbrev pub IsTreeReading : Command → Module → Result Program Refusal → Type 0
+IsTreeReading command tree = Then (Exports tree) (IsExportedReading command tree)
 
-abbrev pub IsParsedReading : List ℕ → Tokens → Result Program Refusal → Type 0
-IsParsedReading file tokens = Then (Parses file tokens) IsTreeReading
+abbrev pub IsParsedReading : Command → List ℕ → Tokens → Result Program Refusal → Type 0
+IsParsedReading command file tokens = Then (Parses file tokens) (IsTreeReading command)
 
 -- all layers, in their order
-abbrev pub IsReading : List ℕ → Result Program Refusal → Type 0
-IsReading file = Then (Lexes file) (IsParsedReading file)
+abbrev pub IsReading : Command → List ℕ → Result Program Refusal → Type 0
+IsReading command file = Then (Lexes file) (IsParsedReading command file)
 
 -- what a call answers that may want memory
 abbrev pub Answered : {A : Type 0} → (Result A Refusal → Type 0) → Result A Stop → Type 0
@@ -128,5 +131,5 @@ Answered gives (Err (stop.Refused r)) = gives (Err r)
 Answered gives (Err stop.Memory) = Unit {0}
 
 -- the bytes are read so, and in no other way
-abbrev pub IsOneReading : List ℕ → Result Program Refusal → Type 0
-IsOneReading file = IsOne (IsReading file)
+abbrev pub IsOneReading : Command → List ℕ → Result Program Refusal → Type 0
+IsOneReading command file = IsOne (IsReading command file)

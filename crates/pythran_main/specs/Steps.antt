@@ -6,6 +6,10 @@ use Rattle.call_binding.specs.Files.{AreRead, AreTold}
 use Rattle.call_binding.specs.declared.head.BindStop.{BindStop}
 use Rattle.call_binding.specs.declared.head.BindStop.TheVariants as stop
 use Rattle.eager_rules.specs.Fits.{IsFilled}
+use Rattle.eager_rules.specs.Kept.{IsKernel, FitsInstance}
+use Rattle.eager_rules.specs.declared.call.Call.{Call}
+use Rattle.eager_rules.specs.declared.program.Instance.{Instance}
+use Rattle.eager_rules.specs.declared.program.Program.{Program}
 use Rattle.host_io.specs.Counts.{Rose}
 use Rattle.host_io.specs.Files.{Held}
 use Rattle.view_places.specs.declared.shape.Array.{Array}
@@ -14,7 +18,7 @@ use Rattle.pythran_main.specs.Answer.{IsCalled, IsRead, Stands, final_arrays}
 use Rattle.pythran_main.specs.Answer as answer
 use Rattle.pythran_main.specs.Ending.{IsAnswered, Causes, status_of, text_of}
 use Rattle.pythran_main.specs.Loads.{Content, IsLonger}
-use Rattle.pythran_main.specs.Request.{Asked}
+use Rattle.call_words.specs.Request.{Asked}
 use Rattle.pythran_main.specs.Saves.{Save}
 use Rattle.pythran_main.specs.World.{Written, Filed, Gained, Broke, AreKept, AreStored, BrokeOff}
 use Rattle.pythran_main.specs.declared.answer.Report.{Report}
@@ -41,6 +45,12 @@ stopped stop.Memory = Memory
 pub record KeepsBuffers (arrays : List Array) (words : List (List ℤ)) : Type 0 where
   pub count : length words ≡ length arrays
   pub filled : All IsFilled (final_arrays arrays words)
+
+-- A call is one of a kernel of the program, which it fits.
+pub record IsCall (program : Program) (kernel : ℕ) (call : Call) : Type 0 where
+  pub instance : Instance
+  pub is : IsKernel program kernel instance
+  pub fits : FitsInstance instance call
 
 -- the answer that was prepared, a failed load, by the counts of faults before and after, or want of memory
 abbrev pub Prepared : ℕ → ℕ → (Answer → Type 0) → Result Report Trouble → Type 0

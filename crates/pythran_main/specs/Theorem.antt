@@ -4,7 +4,7 @@ use Rattle.host_io.specs.Counts.{Rose}
 use Rattle.pythran_main.specs.Answer.{Answer, Refused, RefusedItem, TooLong, Makes, Answers, AreFilesTold}
 use Rattle.pythran_main.specs.Ending.{IsTold, IsUnheard, status_at, text_of}
 use Rattle.pythran_main.specs.Loads.{Loaded}
-use Rattle.pythran_main.specs.Request.{Asked, request}
+use Rattle.call_words.specs.Request.{Asked, request}
 use Rattle.pythran_main.specs.World.{World, Gained, AreStored, NoneRose}
 use Rattle.pythran_main.specs.declared.trouble.Trouble.TheVariants as trouble
 
@@ -14,10 +14,11 @@ IsFailed words w =
     IsTold words w trouble.LoadFailed
     ⊎ (IsTold words w trouble.WriteFailed ⊎ (IsTold words w trouble.StoreFailed ⊎ IsUnheard words w))
 
--- words that are no request end with 2, unless the error text broke off
+-- words that are no request end with 2, unless the error text broke off, or memory was wanting
 abbrev pub IsDeclined : List (List ℕ) → World → ℕ → Type 0
 IsDeclined words w status =
-    request words ≡ None → (status ≡ 2) ⊎ ((status ≡ 5) × Rose w.err.faults_before w.err.faults_after)
+    request words ≡ None
+    → (status ≡ 2) ⊎ (((status ≡ 5) × Rose w.err.faults_before w.err.faults_after) ⊎ (status ≡ 6))
 
 -- what a command does with an answer
 abbrev pub Serves : Answer → World → ℕ → Type 0

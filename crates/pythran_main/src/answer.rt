@@ -1,24 +1,24 @@
-ghost use Rattle.std.specs.Prelude.{◌≡◌, ◌<◌, ◌≤◌, ◌^◌, length, true, Some, IfOk};
+ghost use Rattle.std.specs.Prelude.{◌≡◌, ◌<◌, ◌≤◌, ◌^◌, length, IfOk};
 ghost use Rattle.std.specs.List.{All};
 ghost use Rattle.call_binding.specs.Binding.{meaning as bound_meaning};
 ghost use Rattle.call_binding.specs.Fitting.{IsSave};
 ghost use Rattle.call_binding.specs.Sound.{IsArray};
 ghost use Rattle.call_report.specs.Report.{report_of};
+ghost use Rattle.eager_rules.specs.Sound.{IsTyped};
 ghost use Rattle.pythran_main.specs.Answer.{product_of, source_of};
 ghost use Rattle.pythran_main.specs.Answer as spec;
-ghost use Rattle.pythran_main.specs.Kernel.{are_served};
 ghost use Rattle.pythran_main.specs.Loads.{Whole};
-ghost use Rattle.pythran_main.specs.Request.{meaning};
-ghost use Rattle.pythran_main.specs.Steps.{product, Prepares, CallsTo, LeadsTo};
+ghost use Rattle.call_words.specs.Request.{meaning};
+ghost use Rattle.pythran_main.specs.Steps.{product, IsCall, Prepares, CallsTo, LeadsTo};
 ghost use Rattle.pythran_main.specs.World.{files_of, AreKept};
 
 use crate::program::{heads_of, run};
 use crate::reading::read_module;
-use crate::request::Request;
 use crate::saved_file::{SavedFile, run_files};
 use crate::trouble::Trouble;
 use call_binding::{BoundCall, bind};
 use call_report::{BufferHead, report};
+use call_words::{Command, Request};
 use eager_rules::{Counts, Outcome, Program};
 use host_io::Files;
 use krn_base::{NoMemory, Seq, Text};
@@ -66,28 +66,46 @@ fn counts_of(outcome: &Outcome) -> Counts
     }
 }
 
+/// The counts that a command tells: `eager` tells none.
+fn counts_by(command: Command, outcome: &Outcome) -> Option<Counts>
+    ensures { result ≡ spec.counts_by command outcome.now }
+{
+    match command {
+        Command::Run { .. } => Some(counts_of(outcome)),
+        Command::Eager => None,
+    }
+}
+
 /// The report of a call with these buffers.
 fn text_of(
     alloc: Global,
+    command: Command,
     names: &[Text],
     buffers: &[Array],
     outcome: &Outcome,
 ) -> Result<Seq<u8>, NoMemory>
     ensures { IfOk result (λ text. text ≡
-        report_of (spec.buffer_heads names.now buffers.now) outcome.now (Some (spec.counts_of outcome.now))) }
+        report_of (spec.buffer_heads names.now buffers.now) outcome.now (spec.counts_by command outcome.now)) }
 {
     let heads = buffer_heads(alloc, names, buffers)?;
-    let text = report(alloc, heads.as_slice(), outcome, Some(counts_of(outcome)))?;
+    let counts = counts_by(command, outcome);
+    let text = report(alloc, heads.as_slice(), outcome, counts)?;
     Ok(Seq::from_vec(text))
 }
 
 /// The report of a kernel's run on a bound call, and the files of its saved buffers.
-fn run_bound(alloc: Global, program: Program, bound: BoundCall) -> Result<Report, NoMemory>
-    requires served { are_served program ≡ true }
+fn run_bound(
+    alloc: Global,
+    command: Command,
+    program: &Program,
+    bound: BoundCall,
+) -> Result<Report, NoMemory>
+    requires typed { IsTyped program.now }
+    requires fits { IsCall program.now bound.kernel bound.call }
     requires arrays { All IsArray bound.call.buffers }
     requires saves { All (IsSave bound.call.buffers) bound.saves }
     ensures { IfOk result (λ made. product made ≡
-        product_of (bound_meaning bound) ((source_of program).run (bound_meaning bound))) }
+        product_of (bound_meaning bound) ((source_of command program.now).run (bound_meaning bound))) }
 {
     let BoundCall {
         kernel,
@@ -96,7 +114,13 @@ fn run_bound(alloc: Global, program: Program, bound: BoundCall) -> Result<Report
         saves,
     } = bound;
     let outcome = run(alloc, program, kernel, &call)?;
-    let text = text_of(alloc, names.as_slice(), call.buffers.as_slice(), &outcome)?;
+    let text = text_of(
+        alloc,
+        command,
+        names.as_slice(),
+        call.buffers.as_slice(),
+        &outcome,
+    )?;
     let has_fault = outcome.fault.is_some();
     Ok(Report {
         text,
@@ -112,11 +136,11 @@ fn answer_program<F: Files>(
     request: &Request<'_>,
     files: &mut F,
 ) -> Result<Report, Trouble>
-    requires served { are_served program ≡ true }
-    requires items { length request.now.items.now < 2 ^ 31 }
+    requires typed { IsTyped program }
+    requires items { length request.now.items.items < 2 ^ 31 }
     ensures count { F.faults files.old ≤ F.faults files.new }
     ensures kept { AreKept (files_of F.Files files.old files.new) }
-    ensures prepared { Prepares (CallsTo (meaning request.now) (source_of program))
+    ensures prepared { Prepares (CallsTo (meaning request.now) (source_of request.now.command program))
         (files_of F.Files files.old files.new) result }
 {
     let heads = heads_of(alloc, &program)?;
@@ -127,10 +151,10 @@ fn answer_program<F: Files>(
         alloc,
         heads.as_slice(),
         request.kernel,
-        request.items,
+        request.items.as_slice(),
         files,
     ) {
-        Ok(bound) => Ok(run_bound(alloc, program, bound)?),
+        Ok(bound) => Ok(run_bound(alloc, request.command, &program, bound)?),
         Err(stop) => Err(Trouble::from(stop)),
     }
 }
@@ -151,7 +175,7 @@ pub fn answer_request<F: Files>(
     if request.items.len() >= 1 << 31 {
         return Err(Trouble::Memory);
     }
-    match read_module(alloc, file)? {
+    match read_module(alloc, request.command, file)? {
         Ok(program) => answer_program(alloc, program, request, files),
         Err(refusal) => Err(Trouble::Refused(refusal)),
     }

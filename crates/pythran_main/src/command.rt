@@ -1,15 +1,15 @@
 ghost use Rattle.std.specs.Prelude.{◌≡◌, ℕ, ◌≤◌, List, Some};
 ghost use Rattle.krn_base.specs.declared.refusal.Refusal.{Refusal};
 ghost use Rattle.pythran_main.specs.Ending.{Ends, IsDone, IsTold};
-ghost use Rattle.pythran_main.specs.Request.{request as asked_by, meaning, texts};
+ghost use Rattle.call_words.specs.Request.{request as asked_by, meaning, texts};
 ghost use Rattle.pythran_main.specs.Steps.{Works};
 ghost use Rattle.pythran_main.specs.Theorem.{IsFailed, IsDeclined, IsComplete};
 ghost use Rattle.pythran_main.specs.World.{files_of, sink_of, world};
 
 use crate::deliver::{deliver, tell_trouble};
 use crate::load::prepare;
-use crate::request::{Request, read_request};
 use crate::trouble::Trouble;
+use call_words::{Request, read_request};
 use host_io::{Files, Gate, Sink};
 use std::alloc::Global;
 use std::thread::Threads;
@@ -39,7 +39,7 @@ fn serve<F: Files, O: Sink>(
 ) -> Result<bool, Trouble>
     ensures { Works (texts words.now) (files_of F.Files files.old files.new) (sink_of O.Sink out.old out.new) result }
 {
-    match read_request(words) {
+    match read_request(alloc, words)? {
         Some(request) => serve_request(alloc, &request, files, out),
         None => Err(Trouble::NoRequest),
     }
@@ -84,7 +84,7 @@ pub fn pythran<R: Threads + Sync, F: Files, O: Sink, E: Sink, G: Gate + Sync>(
     ensures done { result ≤ 1 → IsDone (texts words.now)
         (world F.Files files.old files.new O.Sink out.old out.new E.Sink err.old err.new) result }
 
-    // 2: the words are no request; and then it comes, unless the error text broke off.
+    // 2: the words are no request; and then it comes, unless the error text broke off or memory was wanting.
     ensures no_request { result ≡ 2 → IsTold (texts words.now)
         (world F.Files files.old files.new O.Sink out.old out.new E.Sink err.old err.new) Trouble.NoRequest }
     ensures words { IsDeclined (texts words.now)

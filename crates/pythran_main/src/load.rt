@@ -1,13 +1,13 @@
 ghost use Rattle.std.specs.Prelude.{◌<◌, ◌≤◌, IfOk, IfErr};
 ghost use Rattle.pythran_main.specs.Answer.{source_limit, Reaches};
 ghost use Rattle.pythran_main.specs.Loads.{Gives, Whole};
-ghost use Rattle.pythran_main.specs.Request.{meaning};
+ghost use Rattle.call_words.specs.Request.{meaning};
 ghost use Rattle.pythran_main.specs.Steps.{IsUnloaded, Prepares};
 ghost use Rattle.pythran_main.specs.World.{files_of, AreKept};
 
 use crate::answer::{Report, answer_request};
-use crate::request::Request;
 use crate::trouble::Trouble;
+use call_words::Request;
 use host_io::{Files, LoadFault};
 use std::alloc::Global;
 
@@ -40,7 +40,7 @@ pub fn prepare<F: Files>(
     ensures prepared { Prepares (Reaches (meaning request.now)) (files_of F.Files files.old files.new) result }
     ensures kept { AreKept (files_of F.Files files.old files.new) }
 {
-    match load_source(alloc, files, request.module) {
+    match load_source(alloc, files, request.source) {
         Ok(file) => answer_request(alloc, file.as_slice(), request, files),
         Err(trouble) => Err(trouble),
     }

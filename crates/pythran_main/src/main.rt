@@ -11,11 +11,12 @@ mod answer;
 mod command;
 mod deliver;
 #[cfg(test)]
+mod eager_tests;
+#[cfg(test)]
 mod file_tests;
 mod load;
 mod program;
 mod reading;
-mod request;
 mod saved_file;
 mod served;
 #[cfg(test)]

@@ -1,5 +1,6 @@
 ghost use Rattle.std.specs.Prelude.{◌≡◌, ◌^◌, ◌≤◌, ◌<◌, length, map, IfOk};
 ghost use Rattle.call_chains.specs.Calls.{number_of as number_in};
+ghost use Rattle.eager_rules.specs.Sound.{IsTyped};
 ghost use Rattle.py_lex.specs.Lexed.{IsLexed};
 ghost use Rattle.pythran_main.specs.Layers.{IsOne};
 ghost use Rattle.pythran_main.specs.Reading as reading;
@@ -7,6 +8,7 @@ ghost use Rattle.pythran_main.specs.Reading as reading;
 use crate::served::first_unserved;
 use array_types::{Signature as NumberedSignature, typed_terms};
 use call_chains::recursion;
+use call_words::Command;
 use eager_rules::Program;
 use export_sig::{Directive, Signature, directives, exports};
 use krn_base::{Loc, NoMemory, Refusal, Rule, Seq, Stop};
@@ -72,15 +74,18 @@ fn numbered_all(
     Ok(found)
 }
 
-/// A program that is served, or the refusal of the first note of what isn't.
+/// A program that a command serves, or the refusal of the first note of what it doesn't.
 fn serve(
+    command: Command,
     signatures: &[Signature],
     directives: &[Directive],
     program: Program,
 ) -> Result<Program, Refusal>
-    ensures { IsOne (reading.Serves signatures.now directives.now program) result }
+    requires typed { IsTyped program }
+    ensures one { IsOne (reading.Serves command signatures.now directives.now program) result }
+    ensures typed { IfOk result IsTyped }
 {
-    match first_unserved(signatures, directives, &program) {
+    match first_unserved(command, signatures, directives, &program) {
         None => Ok(program),
         Some(loc) => Err(Refusal {
             rule: Rule::Profile,
@@ -115,7 +120,8 @@ fn typed_tree(
     signatures: &[Signature],
     directives: &[Directive],
 ) -> Result<Program, Stop>
-    ensures { reading.Answered (IsOne (reading.Types tree.now signatures.now directives.now)) result }
+    ensures one { reading.Answered (IsOne (reading.Types tree.now signatures.now directives.now)) result }
+    ensures typed { IfOk result IsTyped }
 {
     let routines = resolve(alloc, tree, directives)?;
     let numbered = numbered_all(alloc, tree, signatures)?;
@@ -125,18 +131,20 @@ fn typed_tree(
 /// What a tree is read as that the rules before the walk accept.
 fn read_types(
     alloc: Global,
+    command: Command,
     has_long_line: bool,
     tree: &Module,
     signatures: &[Signature],
     directives: &[Directive],
 ) -> Result<Result<Program, Refusal>, NoMemory>
-    ensures { IfOk result (IsOne (reading.IsTypedReading tree.now signatures.now directives.now)) }
+    ensures one { IfOk result (IsOne (reading.IsTypedReading command tree.now signatures.now directives.now)) }
+    ensures typed { IfOk result (λ read. IfOk read IsTyped) }
 {
     if has_long_line {
         return Err(NoMemory);
     }
     match typed_tree(alloc, tree, signatures, directives) {
-        Ok(program) => Ok(serve(signatures, directives, program)),
+        Ok(program) => Ok(serve(command, signatures, directives, program)),
         Err(Stop::Refused(refused)) => Ok(Err(refused)),
         Err(Stop::Memory) => Err(NoMemory),
     }
@@ -167,15 +175,17 @@ fn test_names(alloc: Global, tree: &Module) -> Result<(), Stop>
 /// What a tree is read as whose names are well.
 fn read_chains(
     alloc: Global,
+    command: Command,
     has_long_line: bool,
     tree: &Module,
     signatures: &[Signature],
     directives: &[Directive],
 ) -> Result<Result<Program, Refusal>, NoMemory>
-    ensures { IfOk result (IsOne (reading.IsNamedReading tree.now signatures.now directives.now)) }
+    ensures one { IfOk result (IsOne (reading.IsNamedReading command tree.now signatures.now directives.now)) }
+    ensures typed { IfOk result (λ read. IfOk read IsTyped) }
 {
     match test_chains(alloc, tree, signatures) {
-        Ok(()) => read_types(alloc, has_long_line, tree, signatures, directives),
+        Ok(()) => read_types(alloc, command, has_long_line, tree, signatures, directives),
         Err(Stop::Refused(refused)) => Ok(Err(refused)),
         Err(Stop::Memory) => Err(NoMemory),
     }
@@ -184,15 +194,17 @@ fn read_chains(
 /// What a tree is read as whose forms are well.
 fn read_names(
     alloc: Global,
+    command: Command,
     has_long_line: bool,
     tree: &Module,
     signatures: &[Signature],
     directives: &[Directive],
 ) -> Result<Result<Program, Refusal>, NoMemory>
-    ensures { IfOk result (IsOne (reading.IsFormedReading tree.now signatures.now directives.now)) }
+    ensures one { IfOk result (IsOne (reading.IsFormedReading command tree.now signatures.now directives.now)) }
+    ensures typed { IfOk result (λ read. IfOk read IsTyped) }
 {
     match test_names(alloc, tree) {
-        Ok(()) => read_chains(alloc, has_long_line, tree, signatures, directives),
+        Ok(()) => read_chains(alloc, command, has_long_line, tree, signatures, directives),
         Err(Stop::Refused(refused)) => Ok(Err(refused)),
         Err(Stop::Memory) => Err(NoMemory),
     }
@@ -201,15 +213,17 @@ fn read_names(
 /// What a tree is read as whose notes are well.
 fn read_forms(
     alloc: Global,
+    command: Command,
     has_long_line: bool,
     tree: &Module,
     signatures: &[Signature],
     directives: &[Directive],
 ) -> Result<Result<Program, Refusal>, NoMemory>
-    ensures { IfOk result (IsOne (reading.IsDirectedReading tree.now signatures.now directives.now)) }
+    ensures one { IfOk result (IsOne (reading.IsDirectedReading command tree.now signatures.now directives.now)) }
+    ensures typed { IfOk result (λ read. IfOk read IsTyped) }
 {
     match test_forms(alloc, tree) {
-        Ok(()) => read_names(alloc, has_long_line, tree, signatures, directives),
+        Ok(()) => read_names(alloc, command, has_long_line, tree, signatures, directives),
         Err(Stop::Refused(refused)) => Ok(Err(refused)),
         Err(Stop::Memory) => Err(NoMemory),
     }
@@ -218,14 +232,23 @@ fn read_forms(
 /// What a tree is read as whose export notes are well.
 fn read_directives(
     alloc: Global,
+    command: Command,
     has_long_line: bool,
     tree: &Module,
     signatures: &[Signature],
 ) -> Result<Result<Program, Refusal>, NoMemory>
-    ensures { IfOk result (IsOne (reading.IsExportedReading tree.now signatures.now)) }
+    ensures one { IfOk result (IsOne (reading.IsExportedReading command tree.now signatures.now)) }
+    ensures typed { IfOk result (λ read. IfOk read IsTyped) }
 {
     match directives(alloc, tree) {
-        Ok(found) => read_forms(alloc, has_long_line, tree, signatures, found.as_slice()),
+        Ok(found) => read_forms(
+            alloc,
+            command,
+            has_long_line,
+            tree,
+            signatures,
+            found.as_slice(),
+        ),
         Err(Stop::Refused(refused)) => Ok(Err(refused)),
         Err(Stop::Memory) => Err(NoMemory),
     }
@@ -234,13 +257,21 @@ fn read_directives(
 /// What a tree is read as.
 fn read_tree(
     alloc: Global,
+    command: Command,
     has_long_line: bool,
     tree: &Module,
 ) -> Result<Result<Program, Refusal>, NoMemory>
-    ensures { IfOk result (IsOne (reading.IsTreeReading tree.now)) }
+    ensures one { IfOk result (IsOne (reading.IsTreeReading command tree.now)) }
+    ensures typed { IfOk result (λ read. IfOk read IsTyped) }
 {
     match exports(alloc, tree) {
-        Ok(signatures) => read_directives(alloc, has_long_line, tree, signatures.as_slice()),
+        Ok(signatures) => read_directives(
+            alloc,
+            command,
+            has_long_line,
+            tree,
+            signatures.as_slice(),
+        ),
         Err(Stop::Refused(export)) => Ok(Err(export)),
         Err(Stop::Memory) => Err(NoMemory),
     }
@@ -249,14 +280,21 @@ fn read_tree(
 /// What the tokens of a text are read as.
 fn read_tokens(
     alloc: Global,
+    command: Command,
     text: &[u8],
     tokens: &Tokens,
 ) -> Result<Result<Program, Refusal>, NoMemory>
     requires { IsLexed text.now tokens.now }
-    ensures { IfOk result (IsOne (reading.IsParsedReading text.now tokens.now)) }
+    ensures one { IfOk result (IsOne (reading.IsParsedReading command text.now tokens.now)) }
+    ensures typed { IfOk result (λ read. IfOk read IsTyped) }
 {
     match parse(alloc, text, tokens) {
-        Ok(tree) => read_tree(alloc, has_long_line(tokens.tokens.as_slice()), &tree),
+        Ok(tree) => read_tree(
+            alloc,
+            command,
+            has_long_line(tokens.tokens.as_slice()),
+            &tree,
+        ),
         Err(Stop::Refused(syntax)) => Ok(Err(syntax)),
         Err(Stop::Memory) => Err(NoMemory),
     }
@@ -264,14 +302,19 @@ fn read_tokens(
 
 /// The program of the module that the text is, or the refusal of the first rule that refuses it: `Lex`, `Syntax`,
 /// `Export`, `Directive`, `Profile`, `Name`, `Recursion`, then `Type` and `Retype` by one walk, and `Profile` again at
-/// the first note of a kernel or a directive that isn't served. Want of memory is also the answer where the rules
-/// before the walk accept a module that has a line of more than 4,000 tokens.
-pub fn read_module(alloc: Global, text: &[u8]) -> Result<Result<Program, Refusal>, NoMemory>
+/// the first note of a kernel or a directive that the command doesn't serve. Want of memory is also the answer where
+/// the rules before the walk accept a module that has a line of more than 4,000 tokens.
+pub fn read_module(
+    alloc: Global,
+    command: Command,
+    text: &[u8],
+) -> Result<Result<Program, Refusal>, NoMemory>
     requires { length text.now ≤ 2 ^ 31 }
-    ensures { IfOk result (reading.IsOneReading text.now) }
+    ensures one { IfOk result (reading.IsOneReading command text.now) }
+    ensures typed { IfOk result (λ read. IfOk read IsTyped) }
 {
     match tokens(alloc, text) {
-        Ok(tokens) => read_tokens(alloc, text, &tokens),
+        Ok(tokens) => read_tokens(alloc, command, text, &tokens),
         Err(Stop::Refused(lexical)) => Ok(Err(lexical)),
         Err(Stop::Memory) => Err(NoMemory),
     }

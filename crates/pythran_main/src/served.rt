@@ -2,6 +2,7 @@ ghost use Rattle.std.specs.Prelude.{◌≡◌, ◌+◌, option_map, map};
 ghost use Rattle.module_names.specs.Places.{soonest};
 ghost use Rattle.pythran_main.specs.Kernel as spec;
 
+use call_words::Command;
 use eager_rules::{Core, Instance, MapOp, Oper, Program};
 use export_sig::{Directive, Signature};
 use krn_base::{BinOp, Loc, ParamType, Text};
@@ -158,14 +159,30 @@ fn first_directive(directives: &[Directive], first: Option<Loc>) -> Option<Loc>
     first
 }
 
-/// The first note in the text of what isn't served: a kernel that isn't a short one, or a directive.
+/// The first note of a kernel that a command doesn't serve: `run` serves short kernels alone, and `eager` each one.
+fn first_unserved_kernel(
+    command: Command,
+    signatures: &[Signature],
+    program: &Program,
+) -> Option<Loc>
+    ensures { result ≡ soonest None (spec.unserved_kernels command signatures.now program.now) }
+{
+    match command {
+        Command::Run { .. } => first_kernel(signatures, program),
+        Command::Eager => None,
+    }
+}
+
+/// The first note in the text of what a command doesn't serve: a kernel, or a directive.
 #[tactic(auto, using(crate::proofs::Serving::soonest_append))]
 pub fn first_unserved(
+    command: Command,
     signatures: &[Signature],
     directives: &[Directive],
     program: &Program,
 ) -> Option<Loc>
-    ensures { result ≡ soonest None (spec.unserved signatures.now directives.now program.now) }
+    ensures { result ≡ soonest None (spec.unserved command signatures.now directives.now program.now) }
 {
-    first_directive(directives, first_kernel(signatures, program))
+    let kernel = first_unserved_kernel(command, signatures, program);
+    first_directive(directives, kernel)
 }

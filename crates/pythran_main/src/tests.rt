@@ -4,6 +4,7 @@ use crate::command::pythran;
 use host_io::{MemFiles, MemSink, OpenGate, Slot};
 use krn_base::Seq;
 use std::alloc::{AllocError, Global};
+use std::process::Abort;
 use std::test::Fail;
 use std::thread::Threads;
 
@@ -26,7 +27,7 @@ const ROW: &str = "return int64 (3,) 2 4 6\nbuffer A int64 (3,) 1 2 3\n\
     counts nests 1 temps 0 parallel 0 serial 0\n";
 
 /// A module, the words of a call, and its status, output and error output.
-type Call = (&'static str, &'static str, u8, &'static str, &'static str);
+pub type Call = (&'static str, &'static str, u8, &'static str, &'static str);
 
 static REPORTS: [Call; 10] = [
     (ADD, "run m.py add buf:A=1,2,3 a=@A b=@A", 0, ROW, ""),
@@ -115,7 +116,7 @@ static REFUSALS: [Call; 16] = [
     (ADD, "", 2, "", "error words\n"),
     (ADD, "frob", 2, "", "error words\n"),
     (ADD, "run m.py", 2, "", "error words\n"),
-    (ADD, "run --workers 2 m.py add", 2, "", "error words\n"),
+    (ADD, "run --workers 2 m.py add", 4, "", "error item 0\n"),
     (ADD, "run m.py add -x", 2, "", "error words\n"),
     (
         SUB,
@@ -366,13 +367,16 @@ fn call<R: Threads + Sync>(
     Ok((status, out, err))
 }
 
-#[test]
-fn reports_of_calls(rt: HostRuntime) -> Result<(), Fail> {
-    let alloc = rt.alloc();
-    for (module, line, status, text, told) in REPORTS {
-        let words = make_words(alloc, line)?;
-        let (ended, out, err) = call(&rt, alloc, module.as_bytes(), words.as_slice(), FINE)?;
-        assert_eq!(rt; ended, status, "{line}");
+/// Each call ends as its row says.
+pub fn call_all<R: Threads + Sync + Abort>(
+    rt: &R,
+    alloc: Global,
+    rows: &[Call],
+) -> Result<(), Fail> {
+    for (module, line, status, text, told) in rows {
+        let words = make_words(alloc, *line)?;
+        let (ended, out, err) = call(rt, alloc, module.as_bytes(), words.as_slice(), FINE)?;
+        assert_eq!(rt; ended, *status, "{line}");
         assert_eq!(rt; out.written(), text.as_bytes(), "{line}");
         assert_eq!(rt; err.written(), told.as_bytes(), "{line}");
     }
@@ -380,16 +384,13 @@ fn reports_of_calls(rt: HostRuntime) -> Result<(), Fail> {
 }
 
 #[test]
+fn reports_of_calls(rt: HostRuntime) -> Result<(), Fail> {
+    call_all(&rt, rt.alloc(), REPORTS.as_slice())
+}
+
+#[test]
 fn refusals_of_calls(rt: HostRuntime) -> Result<(), Fail> {
-    let alloc = rt.alloc();
-    for (module, line, status, text, told) in REFUSALS {
-        let words = make_words(alloc, line)?;
-        let (ended, out, err) = call(&rt, alloc, module.as_bytes(), words.as_slice(), FINE)?;
-        assert_eq!(rt; ended, status, "{line}");
-        assert_eq!(rt; out.written(), text.as_bytes(), "{line}");
-        assert_eq!(rt; err.written(), told.as_bytes(), "{line}");
-    }
-    Ok(())
+    call_all(&rt, rt.alloc(), REFUSALS.as_slice())
 }
 
 #[test]

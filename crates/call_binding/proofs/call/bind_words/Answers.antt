@@ -1,9 +1,8 @@
 use Rattle.std.proofs.Common.{◌≡◌, ◌∙◌, ap, sym, subst, map, List, ℕ, Result, Ok, Err}
 use Rattle.std.specs.Result.{IfOk}
-use Rattle.std.specs.String.{string_bytes}
 use Rattle.call_binding.specs.Binding.{ComesBy, Refused}
 use Rattle.call_binding.specs.Outcome.{Binds, IsGood}
-use Rattle.call_binding.specs.Reading.{read_from}
+use Rattle.call_binding.specs.Reading.{read_from, texts_of}
 use Rattle.call_binding.specs.declared.items.Item.{Item}
 use Rattle.call_binding.proofs.Outcomes.{misspelled}
 use Rattle.call_binding.proofs.call.bind_words.Goals as goal
@@ -13,7 +12,7 @@ returns-in-Ok-clause-binds g c =
     let held = g.F.Files.held c.args.files.now in
     let before = g.F.Files.faults c.args.files.now in
     let after = g.F.Files.faults c.bind_items.new.files in
-    let read : Ok c.in-Ok.items ≡ read_from 1 (map string_bytes c.args.items.now) =
+    let read : Ok c.in-Ok.items ≡ read_from 1 (texts_of c.args.items.now) =
     sym c.in-Ok.is ∙ c.in_ok-items.ensures.items in
     subst (λ (r : Result (List Item) ℕ). Binds held before after c.args.kernels.now c.args.kernel.now r
     c.bind_items.result) read
@@ -28,7 +27,7 @@ returns-in-Ok-clause-good g c =
 pub returns-in-Err-clause-binds : goal.returns-in-Err-clause-binds
 returns-in-Err-clause-binds g c =
     let held = g.F.Files.held c.args.files.now in
-    let read : Err c.in-Err.number ≡ read_from 1 (map string_bytes c.args.items.now) =
+    let read : Err c.in-Err.number ≡ read_from 1 (texts_of c.args.items.now) =
     sym c.in-Err.is ∙ c.in_ok-items.ensures.items in
     subst (λ (r : Result (List Item) ℕ). ComesBy held c.args.kernels.now c.args.kernel.now r
     (Refused c.in-Err.number)) read

@@ -1,10 +1,11 @@
-use Rattle.std.proofs.Common.{◌≡◌, ◌∙◌, ap, map, List, ℕ, Some, is_some}
+use Rattle.std.proofs.Common.{◌≡◌, ◌∙◌, ap, map, List, ℕ, Option, is_some}
 use Rattle.call_binding.specs.Binding.{BoundMeaning, meaning as bound_meaning}
 use Rattle.call_binding.specs.declared.head.Save as bound_save
 use Rattle.call_report.specs.Report.{report_of}
+use Rattle.eager_rules.specs.declared.outcome.Counts.{Counts}
 use Rattle.eager_rules.specs.declared.outcome.Outcome.{Outcome}
 use Rattle.view_places.specs.declared.shape.Array.{Array}
-use Rattle.pythran_main.specs.Answer.{product_of, counted, counts_of, buffer_heads, saved_of, final_arrays}
+use Rattle.pythran_main.specs.Answer.{product_of, counted, counts_by, buffer_heads, saved_of, final_arrays}
 use Rattle.pythran_main.specs.Saves.{Save}
 use Rattle.pythran_main.specs.Steps.{save_of}
 use Rattle.pythran_main.proofs.Buffers.{product_so}
@@ -18,13 +19,14 @@ returns c =
     let names_are : c.as_slice.result.now ≡ b.names = c.as_slice.ensures in
     let arrays_are : c.as_slice-2.result.now ≡ b.arrays = c.as_slice-2.ensures in
     let saves_are : c.as_slice-3.result.now ≡ b.saves = c.as_slice-3.ensures in
+    let counts : Option Counts = counts_by c.args.command o in
     let fault : c.is_some-has_fault.result ≡ is_some o.fault = cc in
-    let text : c.in_ok-text.text ≡ report_of (buffer_heads b.names b.arrays) o (Some (counts_of o)) =
+    let text : c.in_ok-text.text ≡ report_of (buffer_heads b.names b.arrays) o counts =
     c.in_ok-text.ensures
-    ∙ ap (λ (n : List (List ℕ)). report_of (buffer_heads n c.as_slice-2.result.now) o (Some (counts_of o))) names_are
-    ∙ ap (λ (a : List Array). report_of (buffer_heads b.names a) o (Some (counts_of o))) arrays_are in
+    ∙ ap (λ (n : List (List ℕ)). report_of (buffer_heads n c.as_slice-2.result.now) o counts) names_are
+    ∙ ap (λ (a : List Array). report_of (buffer_heads b.names a) o counts) arrays_are in
     let saved : files ≡ map (saved_of (final_arrays b.arrays o.buffers)) b.saves =
     c.in_ok-run_files.ensures
     ∙ ap (λ (s : List bound_save.Save). map (saved_of (final_arrays b.arrays o.buffers)) s) saves_are in
-    product_so b o c.in_ok-text.text c.is_some-has_fault.result files text fault saved
-    ∙ ap (λ (x : Outcome). product_of b (counted x)) c.in_ok-outcome.ensures.outcome
+    product_so c.args.command b o c.in_ok-text.text c.is_some-has_fault.result files text fault saved
+    ∙ ap (λ (x : Outcome). product_of b (counted c.args.command x)) c.in_ok-outcome.ensures.outcome

@@ -1,4 +1,4 @@
-use Rattle.pythran_main.specs.Request.{texts}
+use Rattle.call_words.specs.Request.{texts}
 use Rattle.pythran_main.specs.World.{world}
 use Rattle.pythran_main.proofs.Theorem.{ended_so}
 use Rattle.pythran_main.proofs.command.end.Goals as goal

@@ -1,4 +1,4 @@
-use Rattle.pythran_main.specs.Request.{texts}
+use Rattle.call_words.specs.Request.{texts}
 use Rattle.pythran_main.specs.World.{world}
 use Rattle.pythran_main.proofs.Theorem.{complete_at, done_at, item_at}
 use Rattle.pythran_main.proofs.command.pythran.Goals as goal

@@ -1,5 +1,5 @@
 use Rattle.std.proofs.Common.{subst}
-use Rattle.pythran_main.specs.Request.{meaning}
+use Rattle.call_words.specs.Request.{meaning}
 use Rattle.pythran_main.specs.Answer.{Reaches}
 use Rattle.pythran_main.specs.Steps.{product, Prepares}
 use Rattle.pythran_main.specs.World.{files_of, sink_of}

@@ -1,6 +1,6 @@
 use Rattle.std.proofs.Common.{ℕ, List, subst}
 use Rattle.pythran_main.specs.Loads.{Whole}
-use Rattle.pythran_main.specs.Request.{meaning}
+use Rattle.call_words.specs.Request.{meaning}
 use Rattle.pythran_main.specs.Steps.{Prepares, LeadsTo}
 use Rattle.pythran_main.specs.World.{files_of}
 use Rattle.pythran_main.proofs.Loads.{loaded_so, not_loaded}

@@ -5,20 +5,22 @@ use Rattle.pythran_main.specs.Reading.{Types, Serves, IsTypedReading}
 use Rattle.pythran_main.proofs.Layers.{then_one, refused_one}
 use Rattle.pythran_main.proofs.reading.read_types.Goals as goal
 
-pub returns-in-Ok : goal.returns-in-Ok
-returns-in-Ok c =
+pub returns-in-Ok-clause-one : goal.returns-in-Ok-clause-one
+returns-in-Ok-clause-one c =
     let tree = c.args.tree.now in
     let signatures = c.args.signatures.now in
     let directives = c.args.directives.now in
-    then_one (Types tree signatures directives) (Serves signatures directives) c.in-Ok.program c.serve.result
-    c.in-Ok.ensures c.serve.ensures
+    let last = Serves c.args.command signatures directives in
+    then_one (Types tree signatures directives) last c.in-Ok.program c.serve.result
+    c.in-Ok.ensures.one c.serve.ensures.one
 
-pub returns-in-Err-Refused : goal.returns-in-Err-Refused
-returns-in-Err-Refused c =
+pub returns-in-Err-Refused-clause-one : goal.returns-in-Err-Refused-clause-one
+returns-in-Err-Refused-clause-one c =
     let tree = c.args.tree.now in
     let signatures = c.args.signatures.now in
     let directives = c.args.directives.now in
-    let P : Refusal → Type 0 = λ r. IsOne (IsTypedReading tree signatures directives) (Err r) in
+    let last = Serves c.args.command signatures directives in
+    let P : Refusal → Type 0 = λ r. IsOne (IsTypedReading c.args.command tree signatures directives) (Err r) in
     subst P (sym c.in-Err-Refused.refused-is)
-    (refused_one (Types tree signatures directives) (Serves signatures directives) c.in-Err-Refused.field-0
-    c.in-Err-Refused.refused c.in-Err-Refused.field-0-is c.in-Err-Refused.ensures)
+    (refused_one (Types tree signatures directives) last c.in-Err-Refused.field-0
+    c.in-Err-Refused.refused c.in-Err-Refused.field-0-is c.in-Err-Refused.ensures.one)
