@@ -1,8 +1,8 @@
-"""Runs commands for bench/run and measures each: a small process of its own, since the peak of memory that the system tells
-of a process is never below what its parent had when it began it.
+"""Runs commands for bench/run and measures each: a small process of its own, since the peak of memory that the system
+tells of a process is never below what its parent had when it began it.
 
-A line of the input is a JSON list of words; the answer is a line with the seconds, the peak in bytes, the status and the
-first line of the output, which goes to the file `report` of the current folder.
+A line of the input is a JSON list of words; the answer is a line with the seconds, the peak in bytes, the status and
+the first line of the output, which goes to the file `report` of the current folder.
 """
 import json
 import os

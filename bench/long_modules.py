@@ -1,4 +1,4 @@
-"""Texts of long modules, of a given number of tokens, in three shapes. All of each is typed, and `entry` does nothing."""
+"""Texts of long modules, of a given number of tokens, in three shapes. All of each is typed; `entry` does nothing."""
 import io
 import tokenize
 
@@ -29,7 +29,8 @@ def many_functions(most):
         texts = []
         for kernel in range(KERNELS):
             body = "".join(f"    s += f{k}(a, n)\n" for k in range(kernel, number, KERNELS))
-            texts.append(f"#pythran export k{kernel}(int64[], int64)\ndef k{kernel}(a, n):\n    s = 0\n{body}    return s\n")
+            note = f"#pythran export k{kernel}(int64[], int64)\n"
+            texts.append(f"{note}def k{kernel}(a, n):\n    s = 0\n{body}    return s\n")
         return "".join(texts)
     return filled(most, lambda number: ENTRY, part, kernels)
 

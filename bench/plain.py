@@ -23,17 +23,17 @@ def total(a, b):
 
 
 def choose(a, b):
-    a[:] = [x if x > y else 2 * y for x, y in zip(a, b)]
+    a[:] = [x if x > y else y for x, y in zip(a, b)]
     return a[-1]
 
 
 def shifted(a, b):
-    a[1:] = [x + y for x, y in zip(a[:-1], b[1:])]
+    a[1:] = [x & y for x, y in zip(a[:-1], b[1:])]
     return a[-1]
 
 
 def strided(a, b):
-    a[::2] = [x + y for x, y in zip(a[::2], b[1::2])]
+    a[::2] = [x & y for x, y in zip(a[::2], b[1::2])]
     return a[-2]
 
 
@@ -49,7 +49,7 @@ def nothing_of_table(m):
 def outer(m):
     first = m[0][:]
     for row in m:
-        row[:] = [x + row[0] * y for x, y in zip(row, first)]
+        row[:] = [min(row[0], y) for y in first]
     return m[-1][-1]
 
 

@@ -67,7 +67,12 @@ def pairs(kernel, first, second, make, **others):
 
 
 def add(draw):
-    yield from pairs("add", "a", "b", draw.words)
+    # Its type takes consecutive elements alone.
+    for size in SIZES:
+        yield Case("add", {"A": draw.words(size), "B": draw.words(size)}, {"a": "@A", "b": "@B"})
+    for one, other in ((WHOLE, WHOLE), (TAIL, HEAD), (HEAD, "@A[1:2]"), ("@A[:0]", "@A[-1:]"), (WHOLE, TAIL)):
+        yield Case("add", {"A": draw.words(24)}, {"a": one, "b": other})
+    yield Case("add", {"A": draw.words((3, 8))}, {"a": "@A[1]", "b": "@A[-1]"})
     yield Case("add", {"A": draw.words(3), "B": draw.words(4)}, {"a": "@A", "b": "@B"})
     yield Case("add", {"A": draw.words(1), "B": draw.words(4)}, {"a": "@A", "b": "@B"})
 

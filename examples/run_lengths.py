@@ -23,7 +23,7 @@ def decode(values, lengths):
     out = np.zeros(np.sum(lengths), dtype=np.int64)
     end = 0
     for i in range(len(values)):
-        start = end
-        end += lengths[i]
-        out[start:end] = values[i]
+        for k in range(lengths[i]):
+            out[end] = values[i]
+            end += 1
     return out
