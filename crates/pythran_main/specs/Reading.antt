@@ -3,7 +3,7 @@ use Rattle.std.specs.Prelude.{◌≡◌, ℕ, [], List, map, length, Option, Som
 use Rattle.krn_base.specs.declared.place.Loc.{Loc}
 use Rattle.krn_base.specs.declared.refusal.Refusal.{Refusal}
 use Rattle.krn_base.specs.declared.refusal.Rule.{Rule}
-use Rattle.krn_base.specs.declared.refusal.Rule.TheVariants.{Profile, Name, Recursion}
+use Rattle.krn_base.specs.declared.refusal.Rule.TheVariants.{Profile, Name, Recursion, Unassigned}
 use Rattle.krn_base.specs.declared.refusal.Stop.{Stop}
 use Rattle.krn_base.specs.declared.refusal.Stop.TheVariants as stop
 use Rattle.array_types.specs.Modules.{program_of}
@@ -24,6 +24,7 @@ use Rattle.py_lex.specs.Lexed as lexed
 use Rattle.py_lex.specs.declared.token.Tokens.{Tokens}
 use Rattle.py_parse.specs.Parsed as parsed
 use Rattle.py_parse.specs.declared.tree.Module.{Module}
+use Rattle.use_def.specs.Unassigned as uses
 use Rattle.pythran_main.specs.Kernel.{unserved}
 use Rattle.pythran_main.specs.Layers.{Then, IsOne}
 
@@ -85,6 +86,12 @@ abbrev pub Types : Module → List Signature → List Directive → Result Progr
 Types tree signatures directives found =
     program_of (routines tree directives) (map (numbered tree) signatures) ≡ found
 
+-- the rule on reads of names that some path leaves unassigned
+abbrev pub Assigned : Module → List Signature → Result (Unit {0}) Refusal → Type 0
+Assigned tree signatures =
+    Tests Unassigned (uses.IsAccepted tree (map (exported tree) signatures))
+    (uses.IsFirst tree (map (exported tree) signatures))
+
 -- a program that a command serves, or the first note of what it doesn't
 abbrev pub served_by : Program → Option Loc → Result Program Refusal
 served_by program None = Ok program
@@ -94,10 +101,15 @@ abbrev pub Serves : Command → List Signature → List Directive → Program �
 Serves command signatures directives program found =
     served_by program (soonest None (unserved command signatures directives program)) ≡ found
 
--- the layers behind the tests, the directives, the signatures, the tree and the tokens
+-- the layers behind the program, the tests, the directives, the signatures, the tree and the tokens
+abbrev pub IsCoreReading : Command → Module → List Signature → List Directive → Program → Result Program Refusal
+    → Type 0
+IsCoreReading command tree signatures directives program =
+    Then (Assigned tree signatures) (λ _. Serves command signatures directives program)
+
 abbrev pub IsTypedReading : Command → Module → List Signature → List Directive → Result Program Refusal → Type 0
 IsTypedReading command tree signatures directives =
-    Then (Types tree signatures directives) (Serves command signatures directives)
+    Then (Types tree signatures directives) (IsCoreReading command tree signatures directives)
 
 abbrev pub IsNamedReading : Command → Module → List Signature → List Directive → Result Program Refusal → Type 0
 IsNamedReading command tree signatures directives =

@@ -14,9 +14,10 @@ use export_sig::{Directive, Signature, directives, exports};
 use krn_base::{Loc, NoMemory, Refusal, Rule, Seq, Stop};
 use module_names::{names, profile};
 use module_terms::resolve;
-use py_lex::{Token, TokenKind, Tokens, tokens};
+use py_lex::{Tokens, tokens};
 use py_parse::{Function, Module, parse};
 use std::alloc::{AllocError, Global};
+use use_def::assigned;
 
 /// The number of the first function with this name, or how many functions there are.
 fn number_of(functions: &[Function], name: &[u8]) -> usize
@@ -94,25 +95,6 @@ fn serve(
     }
 }
 
-/// The most tokens of a line whose terms are made: each operator and each trailer nests a term one level further, and
-/// going through a term takes the machine's stack.
-const MOST_TOKENS_OF_A_LINE: usize = 4_000;
-
-/// Whether a line of tokens is too long for its terms.
-fn has_long_line(tokens: &[Token]) -> bool {
-    let mut count: usize = 0;
-    for token in tokens {
-        count = match token.kind {
-            TokenKind::Newline => 0,
-            _ => count.saturating_add(1),
-        };
-        if count > MOST_TOKENS_OF_A_LINE {
-            return true;
-        }
-    }
-    false
-}
-
 /// The walk's program of a tree.
 fn typed_tree(
     alloc: Global,
@@ -128,11 +110,37 @@ fn typed_tree(
     typed_terms(alloc, routines.as_slice(), numbered.as_slice())
 }
 
+fn test_assigned(alloc: Global, tree: &Module, signatures: &[Signature]) -> Result<(), Stop>
+    ensures { reading.Answered (IsOne (reading.Assigned tree.now signatures.now)) result }
+{
+    let numbers = numbers_of(alloc, tree, signatures)?;
+    assigned(alloc, tree, numbers.as_slice())
+}
+
+/// What a tree is read as that has a program.
+fn read_assigned(
+    alloc: Global,
+    command: Command,
+    tree: &Module,
+    signatures: &[Signature],
+    directives: &[Directive],
+    program: Program,
+) -> Result<Result<Program, Refusal>, NoMemory>
+    requires typed { IsTyped program }
+    ensures one { IfOk result (IsOne (reading.IsCoreReading command tree.now signatures.now directives.now program)) }
+    ensures typed { IfOk result (λ read. IfOk read IsTyped) }
+{
+    match test_assigned(alloc, tree, signatures) {
+        Ok(()) => Ok(serve(command, signatures, directives, program)),
+        Err(Stop::Refused(refused)) => Ok(Err(refused)),
+        Err(Stop::Memory) => Err(NoMemory),
+    }
+}
+
 /// What a tree is read as that the rules before the walk accept.
 fn read_types(
     alloc: Global,
     command: Command,
-    has_long_line: bool,
     tree: &Module,
     signatures: &[Signature],
     directives: &[Directive],
@@ -140,11 +148,8 @@ fn read_types(
     ensures one { IfOk result (IsOne (reading.IsTypedReading command tree.now signatures.now directives.now)) }
     ensures typed { IfOk result (λ read. IfOk read IsTyped) }
 {
-    if has_long_line {
-        return Err(NoMemory);
-    }
     match typed_tree(alloc, tree, signatures, directives) {
-        Ok(program) => Ok(serve(command, signatures, directives, program)),
+        Ok(program) => read_assigned(alloc, command, tree, signatures, directives, program),
         Err(Stop::Refused(refused)) => Ok(Err(refused)),
         Err(Stop::Memory) => Err(NoMemory),
     }
@@ -176,7 +181,6 @@ fn test_names(alloc: Global, tree: &Module) -> Result<(), Stop>
 fn read_chains(
     alloc: Global,
     command: Command,
-    has_long_line: bool,
     tree: &Module,
     signatures: &[Signature],
     directives: &[Directive],
@@ -185,7 +189,7 @@ fn read_chains(
     ensures typed { IfOk result (λ read. IfOk read IsTyped) }
 {
     match test_chains(alloc, tree, signatures) {
-        Ok(()) => read_types(alloc, command, has_long_line, tree, signatures, directives),
+        Ok(()) => read_types(alloc, command, tree, signatures, directives),
         Err(Stop::Refused(refused)) => Ok(Err(refused)),
         Err(Stop::Memory) => Err(NoMemory),
     }
@@ -195,7 +199,6 @@ fn read_chains(
 fn read_names(
     alloc: Global,
     command: Command,
-    has_long_line: bool,
     tree: &Module,
     signatures: &[Signature],
     directives: &[Directive],
@@ -204,7 +207,7 @@ fn read_names(
     ensures typed { IfOk result (λ read. IfOk read IsTyped) }
 {
     match test_names(alloc, tree) {
-        Ok(()) => read_chains(alloc, command, has_long_line, tree, signatures, directives),
+        Ok(()) => read_chains(alloc, command, tree, signatures, directives),
         Err(Stop::Refused(refused)) => Ok(Err(refused)),
         Err(Stop::Memory) => Err(NoMemory),
     }
@@ -214,7 +217,6 @@ fn read_names(
 fn read_forms(
     alloc: Global,
     command: Command,
-    has_long_line: bool,
     tree: &Module,
     signatures: &[Signature],
     directives: &[Directive],
@@ -223,7 +225,7 @@ fn read_forms(
     ensures typed { IfOk result (λ read. IfOk read IsTyped) }
 {
     match test_forms(alloc, tree) {
-        Ok(()) => read_names(alloc, command, has_long_line, tree, signatures, directives),
+        Ok(()) => read_names(alloc, command, tree, signatures, directives),
         Err(Stop::Refused(refused)) => Ok(Err(refused)),
         Err(Stop::Memory) => Err(NoMemory),
     }
@@ -233,7 +235,6 @@ fn read_forms(
 fn read_directives(
     alloc: Global,
     command: Command,
-    has_long_line: bool,
     tree: &Module,
     signatures: &[Signature],
 ) -> Result<Result<Program, Refusal>, NoMemory>
@@ -258,7 +259,6 @@ fn read_directives(
 fn read_tree(
     alloc: Global,
     command: Command,
-    has_long_line: bool,
     tree: &Module,
 ) -> Result<Result<Program, Refusal>, NoMemory>
     ensures one { IfOk result (IsOne (reading.IsTreeReading command tree.now)) }
@@ -301,9 +301,8 @@ fn read_tokens(
 }
 
 /// The program of the module that the text is, or the refusal of the first rule that refuses it: `Lex`, `Syntax`,
-/// `Export`, `Directive`, `Profile`, `Name`, `Recursion`, then `Type` and `Retype` by one walk, and `Profile` again at
-/// the first note of a kernel or a directive that the command doesn't serve. Want of memory is also the answer where
-/// the rules before the walk accept a module that has a line of more than 4,000 tokens.
+/// `Export`, `Directive`, `Profile`, `Name`, `Recursion`, then `Type` and `Retype` by one walk, `Unassigned`, and
+/// `Profile` again at the first note of a kernel or a directive that the command doesn't serve.
 pub fn read_module(
     alloc: Global,
     command: Command,

@@ -1,8 +1,8 @@
 use Rattle.std.proofs.Common.{sym, subst, Err}
 use Rattle.krn_base.specs.declared.refusal.Refusal.{Refusal}
 use Rattle.pythran_main.specs.Layers.{IsOne}
-use Rattle.pythran_main.specs.Reading.{Types, Serves, IsTypedReading}
-use Rattle.pythran_main.proofs.Layers.{then_one, refused_one}
+use Rattle.pythran_main.specs.Reading.{Types, IsCoreReading, IsTypedReading}
+use Rattle.pythran_main.proofs.Layers.{if_one, refused_one}
 use Rattle.pythran_main.proofs.reading.read_types.Goals as goal
 
 pub returns-in-Ok-clause-one : goal.returns-in-Ok-clause-one
@@ -10,16 +10,16 @@ returns-in-Ok-clause-one c =
     let tree = c.args.tree.now in
     let signatures = c.args.signatures.now in
     let directives = c.args.directives.now in
-    let last = Serves c.args.command signatures directives in
-    then_one (Types tree signatures directives) last c.in-Ok.program c.serve.result
-    c.in-Ok.ensures.one c.serve.ensures.one
+    let last = IsCoreReading c.args.command tree signatures directives in
+    if_one (Types tree signatures directives) last c.in-Ok.program c.read_assigned.result
+    c.in-Ok.ensures.one c.read_assigned.ensures.one
 
 pub returns-in-Err-Refused-clause-one : goal.returns-in-Err-Refused-clause-one
 returns-in-Err-Refused-clause-one c =
     let tree = c.args.tree.now in
     let signatures = c.args.signatures.now in
     let directives = c.args.directives.now in
-    let last = Serves c.args.command signatures directives in
+    let last = IsCoreReading c.args.command tree signatures directives in
     let P : Refusal → Type 0 = λ r. IsOne (IsTypedReading c.args.command tree signatures directives) (Err r) in
     subst P (sym c.in-Err-Refused.refused-is)
     (refused_one (Types tree signatures directives) last c.in-Err-Refused.field-0
