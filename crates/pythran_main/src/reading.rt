@@ -242,14 +242,7 @@ fn read_directives(
     ensures typed { IfOk result (λ read. IfOk read IsTyped) }
 {
     match directives(alloc, tree) {
-        Ok(found) => read_forms(
-            alloc,
-            command,
-            has_long_line,
-            tree,
-            signatures,
-            found.as_slice(),
-        ),
+        Ok(found) => read_forms(alloc, command, tree, signatures, found.as_slice()),
         Err(Stop::Refused(refused)) => Ok(Err(refused)),
         Err(Stop::Memory) => Err(NoMemory),
     }
@@ -265,13 +258,7 @@ fn read_tree(
     ensures typed { IfOk result (λ read. IfOk read IsTyped) }
 {
     match exports(alloc, tree) {
-        Ok(signatures) => read_directives(
-            alloc,
-            command,
-            has_long_line,
-            tree,
-            signatures.as_slice(),
-        ),
+        Ok(signatures) => read_directives(alloc, command, tree, signatures.as_slice()),
         Err(Stop::Refused(export)) => Ok(Err(export)),
         Err(Stop::Memory) => Err(NoMemory),
     }
@@ -289,12 +276,7 @@ fn read_tokens(
     ensures typed { IfOk result (λ read. IfOk read IsTyped) }
 {
     match parse(alloc, text, tokens) {
-        Ok(tree) => read_tree(
-            alloc,
-            command,
-            has_long_line(tokens.tokens.as_slice()),
-            &tree,
-        ),
+        Ok(tree) => read_tree(alloc, command, &tree),
         Err(Stop::Refused(syntax)) => Ok(Err(syntax)),
         Err(Stop::Memory) => Err(NoMemory),
     }
