@@ -1,6 +1,10 @@
+pub mod FindLemmas
 pub mod ListLemmas
 pub mod NestLemmas
 pub mod PickLemmas
+pub mod ShapeLemmas
+pub mod StartLemmas
 pub mod StepLemmas
+pub mod Zips
 pub mod Ranges
 pub mod Words

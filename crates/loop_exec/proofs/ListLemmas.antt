@@ -1,10 +1,11 @@
 -- Lists that a loop makes, one element further.
 use Rattle.std.proofs.Common.{arith, ◌≡◌, ◌≢◌, ◌∙◌, ap, sym, ℕ, ◌+◌, ◌<◌, ℤ, List, [], ◌∷◌, ◌++◌, map, drop, length}
-use Rattle.std.proofs.Common.{below_more, get_or-set_other, get_or-set_same, get_or, set, slice_index_or}
+use Rattle.std.proofs.lemmas.Option.{get_or_from_slice_get, slice_get_within}
+use Rattle.std.proofs.Common.{slice_get, subst, Some, zero, suc, Bool, true, false, ◌&&◌, below_more, get_or-set_other, get_or-set_same, get_or, set, slice_index_or}
 use Rattle.std.proofs.lemmas.List.{drop_more}
 use Rattle.std.proofs.lemmas.List.FromFn.{map-range_with_len_more}
 use Rattle.std.proofs.lemmas.List.Sums.{fold_push}
-use Rattle.std.specs.List.{range_with_len}
+use Rattle.std.specs.List.{list_all, range_with_len}
 use Rattle.krn_base.specs.Numbers.{join_result, unit_of}
 use Rattle.krn_base.specs.declared.operation.Join.{Join}
 use Rattle.array_ops.specs.Elements.{joined}
@@ -44,3 +45,33 @@ stored_more each b ps start before after k place z so_far below at is stored =
     (stored ∙ ap (λ (w : ℤ). with_word before b place w) is ∙
     ap (λ (p : ℕ). with_word before b p (each before k)) at) ∙
     ap (λ (rest : List ℕ). in_place each b k rest before) (sym (drop_more ps k 0 below)) ∙ so_far
+
+-- ---- a test of a whole list holds of each of its items
+and_left : (a b : Bool) → a && b ≡ true → a ≡ true
+and_left true b h = λ i. true
+and_left false b h = h
+
+and_right : (a b : Bool) → a && b ≡ true → b ≡ true
+and_right true b h = h
+and_right false true h = λ i. true
+and_right false false h = h
+
+pub each_test : {A : Type 0} (test : A → Bool) (xs : List A) → list_all (λ t. t) (map test xs) ≡ true →
+    (k : ℕ) (d : A) → k < length xs → test (slice_index_or xs k d) ≡ true
+each_test test [] h k d below = absurd (omega (arith, below))
+each_test test (x ∷ xs) h zero d below = and_left (test x) (list_all (λ t. t) (map test xs)) h
+each_test test (x ∷ xs) h (suc k) d below =
+    each_test test xs (and_right (test x) (list_all (λ t. t) (map test xs)) h) k d (omega arith)
+
+each_pass : {A : Type 0} (test : A → Bool) (xs : List A) → list_all test xs ≡ true →
+    (k : ℕ) (d : A) → k < length xs → test (slice_index_or xs k d) ≡ true
+each_pass test [] h k d below = absurd (omega (arith, below))
+each_pass test (x ∷ xs) h zero d below = and_left (test x) (list_all test xs) h
+each_pass test (x ∷ xs) h (suc k) d below =
+    each_pass test xs (and_right (test x) (list_all test xs) h) k d (omega arith)
+
+pub item_test : {A : Type 0} (test : A → Bool) (xs : List A) → list_all test xs ≡ true →
+    (k : ℕ) (x : A) → slice_get xs k ≡ Some x → test x ≡ true
+item_test test xs h k x found =
+    subst (λ y. test y ≡ true) (get_or_from_slice_get xs k x x found)
+    (each_pass test xs h k x (slice_get_within xs k x found))

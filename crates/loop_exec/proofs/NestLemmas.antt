@@ -26,6 +26,8 @@ use Rattle.loop_exec.specs.Banks.{state_of, views_bound, words_bound}
 use Rattle.loop_exec.specs.declared.bank.Bank.{Bank}
 use Rattle.view_places.specs.View.{extents}
 use Rattle.loop_exec.specs.Leaves.{read_by}
+use Rattle.loop_exec.specs.Nests.{nested_by}
+use Rattle.loop_exec.specs.Numbered.{leaves_clash, leaves_spread}
 use Rattle.loop_exec.specs.Running.{view_done}
 use Rattle.loop_exec.specs.declared.running.Trouble.{Trouble}
 use Rattle.loop_exec.specs.declared.running.Trouble.TheVariants as trouble
@@ -95,3 +97,18 @@ module _ (bank : Bank) (counts : Counts) (to : ℕ) (steps : List TemplateStep) 
       (extents frame)) (array_of frame) bank.buffers) views_is) ∙
       ap (λ (target : ArrayRef). nest target steps at (state_of counts bank))
       (frame_is ∙ ap (λ (vs : List (Option View)). array_in (view_in (views_bound vs) to)) from_is)
+
+  target_is : array_of frame ≡ array_in (view (state_of counts bank) to)
+  target_is = frame_is ∙ ap (λ (vs : List (Option View)). array_in (view_in (views_bound vs) to)) from_is
+
+  pub told : nested_by true used ≡
+      nested_by (leaves_spread to steps (state_of counts bank)) (leaves_clash to steps (state_of counts bank))
+  told =
+      ap (λ (b : Bool). nested_by b used)
+      (fits ∙ ap (λ (vs : List (Option View)). list_all (λ ns. spreads_to ns (extents frame))
+      (flat_map extents_of (leaf_values (views_bound vs) steps))) spread_is ∙
+      ap (λ (target : ArrayRef). list_all (λ ns. spreads_to ns target.extents)
+      (flat_map extents_of (leaf_values (views_bound bank.views) steps))) target_is) ∙
+      ap (nested_by (leaves_spread to steps (state_of counts bank)))
+      (clash ∙ ap (λ (vs : List (Option View)). some_clash (array_of frame) (leaf_values (views_bound vs) steps)) views_is ∙
+      ap (λ (target : ArrayRef). some_clash target (leaf_values (views_bound bank.views) steps)) target_is)

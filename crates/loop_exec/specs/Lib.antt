@@ -4,3 +4,6 @@ pub mod Elements
 pub mod Nests
 pub mod Running
 pub mod Subscripts
+pub mod Numbered
+pub mod Starts
+pub mod Tests

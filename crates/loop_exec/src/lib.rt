@@ -3,14 +3,23 @@
 
 mod array_work;
 mod bank;
+mod bank_calls;
 mod element;
 mod element_calls;
+mod evaluation;
+mod finding;
+mod fold;
 mod leaf;
 mod leaf_calls;
 mod nest;
 mod nested;
+mod numbered;
+mod ran;
 mod registers;
+mod run;
 mod running;
+mod shape_work;
+mod shapes;
 mod stack;
 mod statements;
 #[cfg(test)]
@@ -20,3 +29,6 @@ mod walks;
 mod word_work;
 
 pub use bank::Bank;
+pub use evaluation::run_program;
+pub use numbered::{run_direct, run_nest};
+pub use ran::Ran;

@@ -1,5 +1,5 @@
 //! Nests: in place or through a temporary.
-ghost use Rattle.std.specs.Prelude.{◌≡◌, ◌<◌, ◌≤◌, ℕ, IfOk, None, OnErr, OnOk, length, slice_index_or, true};
+ghost use Rattle.std.specs.Prelude.{◌≡◌, ◌<◌, ◌≤◌, ℕ, IfOk, None, OnErr, OnOk, false, length, slice_index_or, true};
 ghost use Rattle.std.specs.List.{flat_map, list_all, list_any};
 ghost use Rattle.array_ops.specs.Arrays.{array_of};
 ghost use Rattle.array_ops.specs.Elements.{extents_of, spreads_to};
@@ -14,7 +14,9 @@ ghost use Rattle.loop_prog.specs.Works.{nest as nest_of};
 ghost use Rattle.loop_prog.specs.declared.program.TemplateStep.TheVariants as step;
 ghost use Rattle.loop_exec.specs.Banks.{state_of, views_bound};
 ghost use Rattle.loop_exec.specs.Elements.{IsReady, each_of};
-ghost use Rattle.loop_exec.specs.Nests.{behind};
+ghost use Rattle.loop_exec.specs.Nests.{behind, nested_by};
+ghost use Rattle.loop_exec.specs.Numbered.{leaves_clash, leaves_spread};
+ghost use Rattle.loop_prog.specs.Serial.{no_counts};
 ghost use Rattle.krn_base.specs.declared.place.Loc.{Loc};
 ghost use Rattle.loop_exec.specs.Leaves.{HasExtent, HasExtents, places_of, read_by};
 
@@ -126,6 +128,8 @@ pub fn nest(
     requires small { list_all small_step steps.now ≡ true }
     ensures meaning { IfOk result (λ n. (at : Loc) (counts : AnyCounts) → behind n at counts bank.new ≡
         nest_of (array_in (view (state_of counts bank.old) to)) steps.now at (state_of counts bank.old)) }
+    ensures told { IfOk result (λ n. n ≡ nested_by (leaves_spread to steps.now (state_of no_counts bank.old))
+        (leaves_clash to steps.now (state_of no_counts bank.old))) }
     ensures given { bank.new.given ≡ bank.old.given }
     ensures unchanged { OnErr result (bank.new ≡ bank.old) }
 {
@@ -146,4 +150,27 @@ pub fn nest(
     } else {
         Ok(Nested::Direct)
     }
+}
+
+/// The same without a verdict, where none is `Clash` and the leaves spread. Takes no memory.
+pub fn nest_direct(to: u32, steps: &[TemplateStep], bank: &mut Bank)
+    requires few { length steps.now ≤ 64 }
+    requires small { list_all small_step steps.now ≡ true }
+    requires spread { leaves_spread to steps.now (state_of no_counts bank.old) ≡ true }
+    requires clear { leaves_clash to steps.now (state_of no_counts bank.old) ≡ false }
+    ensures meaning { (at : Loc) (counts : AnyCounts) → behind Nested.Direct at counts bank.new ≡
+        nest_of (array_in (view (state_of counts bank.old) to)) steps.now at (state_of counts bank.old) }
+    ensures given { bank.new.given ≡ bank.old.given }
+{
+    let frame = array(bank.views.as_slice(), to);
+    let mut leaves = [None; 64];
+    spread_leaves(steps, bank.views.as_slice(), &frame, &mut leaves);
+    let e = Element {
+        steps,
+        words: bank.words.as_slice(),
+        views: bank.views.as_slice(),
+        frame: &frame,
+        leaves: &leaves,
+    };
+    store_each(&e, &mut bank.buffers);
 }

@@ -74,19 +74,19 @@ pub fn array(views: &[Option<View>], v: u32) -> View
 }
 
 /// Another value in a scalar register; nothing changes where there is no such register.
-pub fn bind_word(words: &mut Seq<Option<i64>>, r: u32, value: Option<i64>)
+pub fn bind_word(words: &mut Seq<Option<i64>>, r: usize, value: Option<i64>)
     ensures { words_bound words.new ≡ slice_set (words_bound words.old) r (word_bound value) }
 {
-    if (r as usize) < words.len() {
-        words.set(r as usize, value);
+    if r < words.len() {
+        words.set(r, value);
     }
 }
 
 /// Another value in a view register; nothing changes where there is no such register.
-pub fn bind_view(views: &mut Seq<Option<View>>, v: u32, value: Option<View>)
+pub fn bind_view(views: &mut Seq<Option<View>>, v: usize, value: Option<View>)
     ensures { views_bound views.new ≡ slice_set (views_bound views.old) v (view_bound value) }
 {
-    if (v as usize) < views.len() {
-        views.set(v as usize, value);
+    if v < views.len() {
+        views.set(v, value);
     }
 }

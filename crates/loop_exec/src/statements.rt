@@ -1,5 +1,5 @@
 //! One function for each kind of statement without blocks. The clause of each is its line of the definition.
-ghost use Rattle.std.specs.Prelude.{◌≡◌, ◌∷◌, [], ℤ, List, IfOk, true};
+ghost use Rattle.std.specs.Prelude.{◌≡◌, ◌∷◌, [], ℤ, List, IfOk, map, true};
 ghost use Rattle.std.specs.List.{flat_map};
 ghost use Rattle.eager_rules.specs.Works.{extent_work, flip_work, fresh_work, get_work, move_work, pick_work, put_work};
 ghost use Rattle.eager_rules.specs.Works.{sub_operands, word_work};
@@ -7,15 +7,17 @@ ghost use Rattle.loop_exec.specs.Running.{end_of, nothing_done, reached, view_do
 ghost use Rattle.loop_prog.specs.Conditions.{small_word};
 ghost use Rattle.loop_prog.specs.Serial.{finish, operands};
 ghost use Rattle.loop_prog.specs.State.{State, operand, view, with_buffers};
+ghost use Rattle.loop_prog.specs.Works.{check_work, like_work};
 ghost use Rattle.loop_prog.specs.declared.program.Reg.TheVariants as reg;
 
 use crate::array_work::{fresh as fresh_made, picked};
 use crate::registers::{array, bind_view, bind_word, view_in, word};
 use crate::running::{Ending, NothingMade, Running, Trouble, ViewMade, WordMade};
+use crate::shape_work::{check as check_made, like as like_made};
 use crate::word_work::{element, extent as extent_made, put_element, word_op, words_of};
 use array_ops::{Fill, flip as flipped};
 use krn_base::{Loc, NoMemory};
-use loop_prog::{CoreSub, Oper, WordOp};
+use loop_prog::{CoreSub, Oper, Test, WordOp};
 use std::alloc::Global;
 
 /// The end of a statement that binds a scalar register, whose work is done.
@@ -25,7 +27,7 @@ fn finish_word(to: u32, made: WordMade, run: &mut Running) -> Ending
 {
     match made {
         Ok(value) => {
-            bind_word(&mut run.bank.words, to, value);
+            bind_word(&mut run.bank.words, to as usize, value);
             Ending::GoesOn
         }
         Err(Trouble::Failed(fault, at)) => Ending::Faulted(fault, at),
@@ -40,7 +42,7 @@ fn finish_view(to: u32, made: ViewMade, run: &mut Running) -> Ending
 {
     match made {
         Ok(value) => {
-            bind_view(&mut run.bank.views, to, value);
+            bind_view(&mut run.bank.views, to as usize, value);
             Ending::GoesOn
         }
         Err(Trouble::Failed(fault, at)) => Ending::Faulted(fault, at),
@@ -147,7 +149,7 @@ pub fn flip(to: u32, of: u32, run: &mut Running) -> Ending
         finish (reg.View to ∷ []) (flip_work (view (reached run.old) of ∷ []) run.old.bank.buffers) (reached run.old) }
 {
     let from = array(run.bank.views.as_slice(), of);
-    bind_view(&mut run.bank.views, to, Some(flipped(&from)));
+    bind_view(&mut run.bank.views, to as usize, Some(flipped(&from)));
     Ending::GoesOn
 }
 
@@ -157,7 +159,7 @@ pub fn same(to: u32, of: u32, run: &mut Running) -> Ending
         finish (reg.View to ∷ []) (move_work (view (reached run.old) of ∷ []) run.old.bank.buffers) (reached run.old) }
 {
     let value = view_in(run.bank.views.as_slice(), of);
-    bind_view(&mut run.bank.views, to, value);
+    bind_view(&mut run.bank.views, to as usize, value);
     Ending::GoesOn
 }
 
@@ -183,4 +185,42 @@ pub fn fresh(
         &mut run.bank.buffers,
     )?;
     Ok(finish_view(to, made, run))
+}
+
+/// A new buffer of zeros with the broadcast shape of views.
+pub fn like(
+    alloc: Global,
+    to: u32,
+    views: &[u32],
+    at: Loc,
+    run: &mut Running,
+) -> Result<Ending, NoMemory>
+    ensures { IfOk result (λ e. (reached run.new, end_of e) ≡
+        finish (reg.View to ∷ []) (like_work at (map (view (reached run.old)) views.now) run.old.bank.buffers)
+        (reached run.old)) }
+{
+    let made = like_made(
+        alloc,
+        at,
+        run.bank.views.as_slice(),
+        views,
+        &mut run.bank.buffers,
+    )?;
+    Ok(finish_view(to, made, run))
+}
+
+/// A test of the shapes of views.
+pub fn check(
+    alloc: Global,
+    test: Test,
+    views: &[u32],
+    at: Loc,
+    run: &mut Running,
+) -> Result<Ending, NoMemory>
+    ensures { IfOk result (λ e. (reached run.new, end_of e) ≡
+        finish [] (check_work test at (map (view (reached run.old)) views.now) run.old.bank.buffers)
+        (reached run.old)) }
+{
+    let made = check_made(alloc, test, at, run.bank.views.as_slice(), views)?;
+    Ok(finish_none(made))
 }

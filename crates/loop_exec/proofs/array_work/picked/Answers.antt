@@ -1,8 +1,8 @@
-use Rattle.std.proofs.Common.{◌≡◌, ◌∙◌, ap, sym, subst, List}
+use Rattle.std.proofs.Common.{◌∙◌, ap, sym, List}
 use Rattle.array_ops.specs.Arrays.{array_of}
 use Rattle.array_ops.specs.Subscripts.{picked}
 use Rattle.array_ops.specs.declared.subscript.Subscript.{Subscript}
-use Rattle.eager_rules.specs.Works.{Done, as_array, valued}
+use Rattle.eager_rules.specs.Works.{as_array, valued}
 use Rattle.loop_exec.specs.Banks.{words_bound}
 use Rattle.loop_exec.proofs.PickLemmas.{subscripts_are}
 use Rattle.loop_exec.proofs.array_work.picked.Goals as goal

@@ -1,7 +1,6 @@
 use Rattle.loop_exec.specs.Leaves.{place_at}
-use Rattle.std.proofs.Common.{◌≡◌, ◌<◌, ◌∙◌, ap, ℕ, Option, None, slice_index_or, length, rules, arith}
+use Rattle.std.proofs.Common.{◌≡◌, ◌<◌, ◌∙◌, ap, None, slice_index_or, length, arith}
 use Rattle.std.proofs.lemmas.List.{get_or_default, length-set}
-use Rattle.loop_exec.specs.declared.leaf.Leaf.{Leaf}
 use Rattle.loop_exec.proofs.ListLemmas.{set_more}
 use Rattle.loop_exec.proofs.element_calls.first_places.Goals as goal
 

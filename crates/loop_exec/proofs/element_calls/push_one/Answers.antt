@@ -1,6 +1,5 @@
 use Rattle.std.proofs.Common.{rules, FitsSigned, w64, ◌≡◌, ◌∙◌, ap, sym, ◌∷◌, ℕ, ℤ, List, reverse}
 use Rattle.view_places.specs.View.{extents}
-use Rattle.overlap.specs.Walks.{Leaf as PlacesRead}
 use Rattle.array_ops.specs.Elements.{Bound}
 use Rattle.loop_prog.specs.Templates.{push, spread_leaf}
 use Rattle.loop_prog.specs.declared.program.TemplateStep.{TemplateStep}

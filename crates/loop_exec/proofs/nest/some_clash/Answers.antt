@@ -3,12 +3,10 @@ use Rattle.std.specs.List.{list_any}
 use Rattle.std.proofs.lemmas.List.{get_or_default}
 use Rattle.array_ops.specs.Arrays.{ArrayRef, array_of}
 use Rattle.array_ops.specs.Elements.{Bound}
-use Rattle.overlap.specs.Walks.{Leaf as PlacesRead}
 use Rattle.loop_prog.specs.Templates.{clashes, leaf_values, some_clash, spread_leaf}
 use Rattle.loop_prog.specs.declared.program.TemplateStep.TheVariants as step
 use Rattle.loop_exec.specs.Banks.{views_bound}
 use Rattle.loop_exec.specs.Leaves.{places_of, read_by}
-use Rattle.loop_exec.specs.declared.leaf.Leaf.{Leaf}
 use Rattle.loop_exec.proofs.NestLemmas.{clash_more}
 use Rattle.loop_exec.proofs.nest.some_clash.Goals as goal
 

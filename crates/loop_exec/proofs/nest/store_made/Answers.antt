@@ -1,4 +1,4 @@
-use Rattle.std.proofs.Common.{◌≡◌, ◌∙◌, ap, List, ℤ, length, map}
+use Rattle.std.proofs.Common.{◌∙◌, ap, List, ℤ, length, map}
 use Rattle.std.proofs.lemmas.List.FromFn.{length-map-range_with_len}
 use Rattle.std.specs.List.{range_with_len}
 use Rattle.overlap.specs.Walks.{with_words}

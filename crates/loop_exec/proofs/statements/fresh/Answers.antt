@@ -1,4 +1,4 @@
-use Rattle.std.proofs.Common.{◌≡◌, ◌∙◌, ap, [], ◌∷◌, List, ℤ, Option, map}
+use Rattle.std.proofs.Common.{◌∙◌, ap, [], ◌∷◌, List, ℤ, Option, map}
 use Rattle.eager_rules.specs.Works.{Done, fresh_work}
 use Rattle.loop_exec.specs.Banks.{words_bound}
 use Rattle.loop_exec.specs.Running.{reached}

@@ -1,4 +1,4 @@
-use Rattle.std.proofs.Common.{arith, rules, ◌≡◌, ◌∙◌, ◌+◌, FitsSigned, w64, to_z, of_z}
+use Rattle.std.proofs.Common.{arith, rules, ◌≡◌, ◌∙◌, FitsSigned, w64, to_z, of_z}
 use Rattle.loop_exec.specs.Elements.{each_of}
 use Rattle.loop_exec.proofs.ListLemmas.{made_more}
 use Rattle.loop_exec.proofs.Words.{word_kept}
