@@ -1,6 +1,6 @@
 -- Statements by their numbers: those of blocks, one level unfolded, and one statement further.
 use Rattle.std.proofs.Common.{arith, ◌≡◌, ◌∙◌, ap, sym, subst, refl, ℕ, zero, suc, ◌+◌, ◌-◌, ◌<◌, List, [], ◌∷◌, ◌++◌, map}
-use Rattle.std.proofs.Common.{drop, length, slice_get, Option, Some, None, length-append, append_assoc, IfNone}
+use Rattle.std.proofs.Common.{length, slice_get, Option, Some, None, length-append, append_assoc, IfNone}
 use Rattle.std.specs.List.{flat_map}
 use Rattle.std.proofs.lemmas.List.{map-append}
 use Rattle.std.proofs.lemmas.Option.{none-some, slice_get_past}
@@ -11,7 +11,7 @@ use Rattle.loop_exec.specs.Numbered.{IsNestAt, IsNestIn}
 use Rattle.loop_prog.specs.declared.program.Statement.{Statement, out-Statement}
 use Rattle.loop_prog.specs.declared.program.Statement.TheOpen as l
 use Rattle.loop_prog.specs.declared.program.Statement.TheFolds.{map-Statement, para-roll-Statement}
-use Rattle.loop_prog.specs.declared.program.Statement.TheViews.{roll-Statement, roll-out-Statement}
+use Rattle.loop_prog.specs.declared.program.Statement.TheViews.{roll-out-Statement}
 
 abbrev with_own : Statement → Statement × List Statement
 with_own s = (s, inner s)

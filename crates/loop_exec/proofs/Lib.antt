@@ -1,3 +1,4 @@
+pub mod CheckedRuns
 pub mod FindLemmas
 pub mod ListLemmas
 pub mod NestLemmas
@@ -5,6 +6,7 @@ pub mod PickLemmas
 pub mod ShapeLemmas
 pub mod StartLemmas
 pub mod StepLemmas
+pub mod Trees
 pub mod Zips
 pub mod Ranges
 pub mod Words

@@ -47,11 +47,11 @@ stored_more each b ps start before after k place z so_far below at is stored =
     ap (λ (rest : List ℕ). in_place each b k rest before) (sym (drop_more ps k 0 below)) ∙ so_far
 
 -- ---- a test of a whole list holds of each of its items
-and_left : (a b : Bool) → a && b ≡ true → a ≡ true
+pub and_left : (a b : Bool) → a && b ≡ true → a ≡ true
 and_left true b h = λ i. true
 and_left false b h = h
 
-and_right : (a b : Bool) → a && b ≡ true → b ≡ true
+pub and_right : (a b : Bool) → a && b ≡ true → b ≡ true
 and_right true b h = h
 and_right false true h = λ i. true
 and_right false false h = h

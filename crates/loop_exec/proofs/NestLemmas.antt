@@ -1,10 +1,9 @@
 -- A nest by the steps of its template, and what work leaves.
-use Rattle.std.proofs.Common.{◌≡◌, ◌∙◌, ap, sym, refl, ℕ, ◌+◌, ◌<◌, ℤ, Bool, true, ◌||◌, if◌then◌else◌, List, [], ◌∷◌, ◌++◌, drop}
+use Rattle.std.proofs.Common.{◌≡◌, ◌∙◌, ap, sym, refl, ℕ, ◌+◌, ◌<◌, ℤ, Bool, true, ◌||◌, if◌then◌else◌, List, [], ◌∷◌, drop}
 use Rattle.std.proofs.Common.{length, slice_index_or, Result, Ok, Err, Option}
 use Rattle.std.specs.List.{flat_map, list_all, list_any}
 use Rattle.std.proofs.lemmas.List.{drop_more}
 use Rattle.std.proofs.lemmas.List.Folds.{list_any-append}
-use Rattle.krn_base.specs.declared.fault.Fault.{Fault}
 use Rattle.krn_base.specs.declared.fault.Fault.TheVariants.{ValueError}
 use Rattle.krn_base.specs.declared.place.Loc.{Loc}
 use Rattle.array_ops.specs.Arrays.{ArrayRef, array_of}
@@ -13,7 +12,7 @@ use Rattle.array_ops.specs.Elements.{Bound, extents_of, spreads_to}
 use Rattle.overlap.specs.Walks.{with_words}
 use Rattle.eager_rules.specs.Works.{array_in}
 use Rattle.eager_rules.specs.declared.outcome.Counts.{Counts}
-use Rattle.eager_rules.specs.Blocks.{End, GoesOn, Faulted, given}
+use Rattle.eager_rules.specs.Blocks.{GoesOn, given}
 use Rattle.loop_prog.specs.State.{State, count_nest, view, view_in, with_buffers, with_counts}
 use Rattle.loop_prog.specs.Serial.{finish}
 use Rattle.loop_prog.specs.Templates.{clashes, element, leaf_values, nested, some_clash, spread_leaf}

@@ -1,5 +1,5 @@
 -- Arguments in the registers of their parameters, one after another.
-use Rattle.std.proofs.Common.{◌≡◌, ◌∙◌, refl, ℕ, zero, suc, ◌+◌, ℤ, Bool, true, false, List, [], ◌∷◌, map, drop, replicate, Option, None, ap}
+use Rattle.std.proofs.Common.{◌≡◌, ◌∙◌, refl, ℕ, zero, suc, ◌+◌, ℤ, true, List, [], ◌∷◌, map, drop, replicate, Option, None, ap}
 use Rattle.krn_base.specs.declared.kind.ParamType.{ParamType}
 use Rattle.krn_base.specs.declared.kind.ParamType.TheVariants.{Scalar, Flat, Strided}
 use Rattle.view_places.specs.declared.shape.Array.{Array}

@@ -3,12 +3,11 @@ use Rattle.std.proofs.Common.{arith, ◌≡◌, ◌∙◌, ap, sym, refl, ℕ, z
 use Rattle.std.proofs.Common.{List, [], ◌∷◌, ◌++◌, map, length, ℤ, pos, Option, Some, None, slice_index_or, length-append}
 use Rattle.std.specs.List.{flat_map, range_with_len}
 use Rattle.std.proofs.lemmas.List.{get_or-map, get_or-replicate, length-map}
-use Rattle.view_places.specs.Arrays.{element_count, indices, spread, entry, clipped}
+use Rattle.view_places.specs.Arrays.{element_count, indices, spread}
 use Rattle.view_places.specs.View.{extents, places}
 use Rattle.view_places.specs.declared.view.View.{View}
-use Rattle.overlap.specs.Walks.{Leaf as PlacesRead}
 use Rattle.array_ops.specs.Arrays.{word_at}
-use Rattle.array_ops.specs.Elements.{Bound, Unbound, extents_of, operand_elements}
+use Rattle.array_ops.specs.Elements.{Bound, extents_of, operand_elements}
 use Rattle.loop_prog.specs.State.{view_in}
 use Rattle.loop_prog.specs.Templates.{leaf_values, spread_leaf}
 use Rattle.loop_prog.specs.declared.program.TemplateStep.{TemplateStep}

@@ -1,4 +1,4 @@
-use Rattle.std.proofs.Common.{◌≡◌, ◌<◌, ◌∙◌, ap, sym, ℕ, ◌+◌, List, ◌∷◌, drop, length, map, true}
+use Rattle.std.proofs.Common.{◌≡◌, ◌∙◌, ap, sym, ℕ, ◌+◌, List, ◌∷◌, drop, map, true}
 use Rattle.std.proofs.lemmas.List.{drop_more, drop-drop}
 use Rattle.krn_base.specs.declared.kind.ParamType.{ParamType}
 use Rattle.eager_rules.specs.State.{bound_to}

@@ -1,4 +1,4 @@
-use Rattle.std.proofs.Common.{◌≡◌, ◌∙◌, ap, ap₂, ℕ, List, length}
+use Rattle.std.proofs.Common.{◌∙◌, ap, ap₂, ℕ, List, length}
 use Rattle.std.proofs.lemmas.Result.{IfOk-weaker}
 use Rattle.krn_base.specs.declared.kind.Kind.{Kind}
 use Rattle.eager_rules.specs.Blocks.{End}

@@ -1,5 +1,4 @@
 use Rattle.std.proofs.Common.{◌≡◌, ◌∙◌, ap, ap₂, refl, ℕ, ℤ, List, map, replicate, length}
-use Rattle.krn_base.specs.declared.kind.ParamType.{ParamType}
 use Rattle.view_places.specs.declared.shape.Array.{Array}
 use Rattle.array_ops.specs.Elements.{Bound, Unbound}
 use Rattle.eager_rules.specs.State.{bound_to}
