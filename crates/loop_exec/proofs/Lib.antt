@@ -1,0 +1,12 @@
+pub mod CheckedRuns
+pub mod FindLemmas
+pub mod ListLemmas
+pub mod NestLemmas
+pub mod PickLemmas
+pub mod ShapeLemmas
+pub mod StartLemmas
+pub mod StepLemmas
+pub mod Trees
+pub mod Zips
+pub mod Ranges
+pub mod Words

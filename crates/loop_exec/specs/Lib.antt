@@ -1,0 +1,9 @@
+pub mod Banks
+pub mod Leaves
+pub mod Elements
+pub mod Nests
+pub mod Running
+pub mod Subscripts
+pub mod Numbered
+pub mod Starts
+pub mod Tests

@@ -1,0 +1,15 @@
+//! What a checked program is to the executor.
+ghost use Rattle.std.specs.Prelude.{◌≡◌, None, true};
+ghost use Rattle.loop_exec.specs.Starts.{kernels_runnable, kernels_serial};
+ghost use Rattle.loop_prog.specs.Check.{flaw_of};
+
+use loop_prog::LoopProgram;
+
+/// A program that `loop_prog::check` takes and that has no parallel loop is one that `run_program` runs.
+pub fn checked_is_runnable(program: &LoopProgram)
+    requires checked { flaw_of program.now ≡ None }
+    requires serial { kernels_serial program.now.kernels ≡ true }
+    ensures { kernels_runnable program.now.kernels ≡ true }
+{
+    let _kernels = program.kernels.len();
+}
