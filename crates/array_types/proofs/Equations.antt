@@ -3,6 +3,8 @@ use Rattle.std.proofs.Common.{arith, ◌≡◌, ◌<◌, ◌+◌, ◌-◌, ◌==
 use Rattle.std.proofs.Common.{map, drop, drop-cons, get_or, slice_get, Option, Some, None, Result, Ok, Err, ap, ◌∙◌}
 use Rattle.std.proofs.Common.{sym, refl, add-one}
 use Rattle.krn_base.specs.declared.place.Loc.{Loc}
+use Rattle.krn_base.specs.declared.refusal.Stop.{Stop}
+use Rattle.krn_base.specs.declared.refusal.Stop.TheVariants as stop
 use Rattle.eager_rules.specs.Types.{Ty}
 use Rattle.eager_rules.specs.declared.program.CoreSub.{CoreSub}
 use Rattle.module_terms.specs.declared.term.Part.TheOpen as f
@@ -15,7 +17,7 @@ use Rattle.py_parse.specs.declared.tree.Name.{Name}
 use Rattle.array_types.specs.Forms.{Calls, Made, Follow, part_step, step_step, term_step, term, links, into, line}
 use Rattle.array_types.specs.Forms.{in_order}
 use Rattle.array_types.specs.Modules.{New, new_at, called, called_function, called_routine, met_by, instance_for}
-use Rattle.array_types.specs.Walk.{Nothing, Outcome, Walk, and_then, test, find}
+use Rattle.array_types.specs.Walk.{Nothing, Outcome, Walk, Walks, and_then, test, find}
 use Rattle.array_types.specs.declared.state.State.{State}
 use Rattle.array_types.specs.declared.state.Value.{Value}
 use Rattle.array_types.specs.declared.state.Target.{Target}
@@ -76,3 +78,8 @@ called_new new routines names name types s function routine known there fits non
     ∙ ap (λ (holds : Bool). and_then (test holds name.loc s)
     (λ (u : Nothing) t. met_by new function routine types name.loc (instance_for function types t.keys) t)) fits
     ∙ ap (λ (o : Option ℕ). met_by new function routine types name.loc o s) none
+
+module _ {A B : Type 0} (o : Outcome A) (f : A → Walk B) where
+  pub failed : (e : Stop) (s u : State) → Walks o (Err e) s → Walks (and_then o f) (Err e) u
+  failed (stop.Refused r) s u h = ap (λ (x : Outcome A). and_then x f) h
+  failed stop.Memory s u h = tt

@@ -579,13 +579,16 @@ pub fn enter(
 {
     let n = state.instances.len();
     let mut within = instances::begin(alloc, key, routine, params.as_slice(), state)?;
-    block(
+    let walked = block(
         routine.body.as_slice(),
         depth,
         routines,
         names,
         alloc,
         &mut within,
-    )?;
-    instances::finish(n, routine, params, within, alloc, state)
+    );
+    match walked {
+        Ok(()) => instances::finish(n, routine, params, within, alloc, state),
+        Err(stop) => Err(stop),
+    }
 }

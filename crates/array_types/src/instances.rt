@@ -182,7 +182,8 @@ fn rets_of(alloc: Global, rets: Option<Seq<Ty>>) -> Seq<Ty>
     }
 }
 
-/// The instance of a walked body, which is put at its number. It is refused where a path misses a value.
+/// The instance of a walked body, which is put at its number. It is refused where a reduction's name is bound nowhere,
+/// and where a path misses a value.
 pub fn finish(
     n: usize,
     routine: &Routine,

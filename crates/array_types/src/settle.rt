@@ -16,11 +16,7 @@ fn number_of_text(text: &[u8], i: u32, state: &State) -> Result<u32, Stop>
     need(found, place_of(i, state.places.as_slice()), state)
 }
 
-fn numbers_for(
-    alloc: Global,
-    entries: &[(Text, u32)],
-    state: &State,
-) -> Result<Seq<u32>, Stop>
+fn numbers_for(alloc: Global, entries: &[(Text, u32)], state: &State) -> Result<Seq<u32>, Stop>
     ensures { Walks (spec.numbers_from [] entries.now state.now) result state.now }
 {
     let mut found = Seq::new(alloc);

@@ -1,5 +1,5 @@
 use Rattle.std.proofs.Common.{arith, rules, ◌≡◌, ◌+◌, ◌<◌, ◌≤◌, ◌==◌, true, length, max, map, drop, slice_get, Some}
-use Rattle.std.proofs.Common.{None, Ok, ℕ, ap, ap₂, subst, sym, ◌∙◌}
+use Rattle.std.proofs.Common.{None, Ok, Err, ℕ, ap, ap₂, subst, sym, ◌∙◌}
 use Rattle.std.proofs.lemmas.Grind.{common_steps}
 use Rattle.std.proofs.lemmas.Option.{gets}
 use denote.Param.Weighed.{most}
@@ -12,7 +12,7 @@ use Rattle.array_types.specs.Modules.{calls_at, new_at, instance_for, begun, ent
 use Rattle.array_types.specs.declared.state.Value.{Value}
 use Rattle.array_types.specs.Walk.{Nothing, Outcome, Walks, and_then, find}
 use Rattle.array_types.specs.declared.state.State.{State}
-use Rattle.array_types.proofs.Equations.{logic_from, new_below, block_from, called_new, test_held}
+use Rattle.array_types.proofs.Equations.{logic_from, new_below, block_from, called_new, test_held, failed}
 use Rattle.array_types.proofs.Weights.{line_here, weighs_Store}
 use Rattle.array_types.proofs.body.+body.Goals as goal
 
@@ -101,8 +101,8 @@ call-returns-else-depth-eq0 t c =
     c.args.types c.args.name.now.loc c.args.state.now c.if-depth-eq0.false in
     subst (λ (o : Outcome Given). Walks o c.new.result c.new.new.state) (sym (e ∙ below)) c.new.ensures
 
-pub enter-returns-in_err-block : goal.enter-returns-in_err-block
-enter-returns-in_err-block t c =
+pub enter-returns-in-Err : goal.enter-returns-in-Err
+enter-returns-in-Err t c =
     let calls = calls_at c.args.routines.now c.args.names.now c.args.depth in
     let left : Nothing → State → Outcome Given = λ u w.
     finished (length c.args.state.now.instances) c.args.routine.now c.args.params c.args.state.now w in
@@ -112,4 +112,6 @@ enter-returns-in_err-block t c =
     let e : entered c.args.key c.args.routine.now c.args.params (block calls c.args.routine.now.body)
     c.args.state.now ≡ and_then (block calls c.as_slice-2.result.now c.in_ok-within.within) left =
     sym (ap₂ (λ body s. and_then (block calls body s) left) c.as_slice-2.ensures start) in
-    search rules
+    subst (λ (o : Outcome Given). Walks o (Err c.in-Err.stop) c.begin.new.state) (sym e)
+    (failed (block calls c.as_slice-2.result.now c.in_ok-within.within) left c.in-Err.stop c.block-walked.new.state
+    c.begin.new.state c.in-Err.ensures)
