@@ -238,7 +238,9 @@ def transpose(draw):
 
 def views(draw):
     yield from pairs("blend", "to", "other", draw.words)
-    yield from pairs("swap", "a", "b", draw.words)
+    # NumPy 1.24 stores a view into an overlapping one that runs the same way without a temporary. Where their steps
+    # differ it then reads elements that it has stored, against its own rule, so it can't be asked what is right.
+    yield from (case for case in pairs("swap", "a", "b", draw.words) if case.arguments["a"] != "@A[4:20:2]")
     yield from pairs("interleave", "a", "b", draw.words)
     for kernel, first, second in (("blend", "to", "other"), ("swap", "a", "b"), ("interleave", "a", "b")):
         for one, other in (("@A", "@A[:1]"), ("@A[:1]", "@A"), ("@A", "@A[2:]"), ("@A[:3]", "@A[:2]"),
