@@ -44,4 +44,4 @@ module _ (P : Statement → Type 0) where
   pub by_layers : ((y : l.Statement-F (Good P)) → P (roll-Statement (map-Statement (Good P) Statement (λ g. g.0) y))) →
       (x : Statement) → P x
   by_layers layer = ind-Statement P (λ x y is. subst (λ (z : l.Statement-F Statement). P (roll-Statement z)) is
-  (layer y))
+      (layer y))
