@@ -78,7 +78,8 @@ or_end false true = refl
 or_end false false = refl
 
 pub inserted : {K : Type 0} (eq : K → Bool) (q : K → Bool) (k : K) (xs : List K)
-    → ((x : K) → eq x ≡ true → q x ≡ q k) → list_any q (cond (list_any eq xs) xs (xs ++ k ∷ [])) ≡ (list_any q xs || q k)
+    → ((x : K) → eq x ≡ true → q x ≡ q k) → list_any q (cond (list_any eq xs) xs (xs ++ k ∷ [])) ≡ (list_any q xs
+    || q k)
 inserted eq q k xs same = by (list_any eq xs) refl
   where
     by : (t : Bool) → list_any eq xs ≡ t → list_any q (cond t xs (xs ++ k ∷ [])) ≡ (list_any q xs || q k)

@@ -119,8 +119,8 @@ fn signatures(
 /// A note is refused by `Rule::Export` at its `#` where it is malformed, names no function of the module, has
 /// another number of types than that function has parameters (the first function of the name counts), has more than
 /// 16, repeats name and types of a signature before it, or is the 65th; the first such note in the text gives the
-/// refusal. Nothing is asked of the module. The functions are gone through once. Each note is read once, and its name and its
-/// signature are looked up in indexes; no note behind the 65th is read.
+/// refusal. Nothing is asked of the module. The functions are gone through once. Each note is read once, and its name
+/// and its signature are looked up in indexes; no note behind the 65th is read.
 pub fn exports(alloc: Global, module: &Module) -> Result<Seq<Signature>, Stop>
     ensures signatures { IfOk result (λ signatures. AreExports «module».now signatures) }
     ensures refused { IfErr result (IsExportRefusal «module».now) }

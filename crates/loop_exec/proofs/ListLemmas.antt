@@ -1,7 +1,8 @@
 -- Lists that a loop makes, one element further.
 use Rattle.std.proofs.Common.{arith, ◌≡◌, ◌≢◌, ◌∙◌, ap, sym, ℕ, ◌+◌, ◌<◌, ℤ, List, [], ◌∷◌, ◌++◌, map, drop, length}
 use Rattle.std.proofs.lemmas.Option.{get_or_from_slice_get, slice_get_within}
-use Rattle.std.proofs.Common.{slice_get, subst, Some, zero, suc, Bool, true, false, ◌&&◌, below_more, get_or-set_other, get_or-set_same, get_or, set, slice_index_or}
+use Rattle.std.proofs.Common.{slice_get, subst, Some, zero, suc, Bool, true, false, ◌&&◌, below_more}
+use Rattle.std.proofs.Common.{get_or-set_other, get_or-set_same, get_or, set, slice_index_or}
 use Rattle.std.proofs.lemmas.List.{drop_more}
 use Rattle.std.proofs.lemmas.List.FromFn.{map-range_with_len_more}
 use Rattle.std.proofs.lemmas.List.Sums.{fold_push}

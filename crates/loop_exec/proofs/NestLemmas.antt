@@ -1,5 +1,6 @@
 -- A nest by the steps of its template, and what work leaves.
-use Rattle.std.proofs.Common.{◌≡◌, ◌∙◌, ap, sym, refl, ℕ, ◌+◌, ◌<◌, ℤ, Bool, true, ◌||◌, if◌then◌else◌, List, [], ◌∷◌, drop}
+use Rattle.std.proofs.Common.{◌≡◌, ◌∙◌, ap, sym, refl, ℕ, ◌+◌, ◌<◌, ℤ, Bool, true, ◌||◌, if◌then◌else◌, List, [], ◌∷◌}
+use Rattle.std.proofs.Common.{drop}
 use Rattle.std.proofs.Common.{length, slice_index_or, Result, Ok, Err, Option}
 use Rattle.std.specs.List.{flat_map, list_all, list_any}
 use Rattle.std.proofs.lemmas.List.{drop_more}
@@ -89,7 +90,8 @@ module _ (bank : Bank) (counts : Counts) (to : ℕ) (steps : List TemplateStep) 
       nest_fits (array_of frame) steps at (state_of counts bank) used after
       (ap (λ (vs : List (Option View)). list_all (λ ns. spreads_to ns (extents frame))
       (flat_map extents_of (leaf_values (views_bound vs) steps))) (sym spread_is) ∙ sym fits)
-      (clash ∙ ap (λ (vs : List (Option View)). some_clash (array_of frame) (leaf_values (views_bound vs) steps)) views_is)
+      (clash ∙ ap (λ (vs : List (Option View)). some_clash (array_of frame) (leaf_values (views_bound vs) steps))
+      views_is)
       (stored ∙ ap (λ (ws : List (Option ℤ)). nested used (element (words_bound ws) (views_bound views) steps
       (extents frame)) (array_of frame) bank.buffers) words_is ∙
       ap (λ (vs : List (Option View)). nested used (element (words_bound bank.words) (views_bound vs) steps
@@ -109,5 +111,6 @@ module _ (bank : Bank) (counts : Counts) (to : ℕ) (steps : List TemplateStep) 
       ap (λ (target : ArrayRef). list_all (λ ns. spreads_to ns target.extents)
       (flat_map extents_of (leaf_values (views_bound bank.views) steps))) target_is) ∙
       ap (nested_by (leaves_spread to steps (state_of counts bank)))
-      (clash ∙ ap (λ (vs : List (Option View)). some_clash (array_of frame) (leaf_values (views_bound vs) steps)) views_is ∙
+      (clash ∙ ap (λ (vs : List (Option View)). some_clash (array_of frame) (leaf_values (views_bound vs) steps))
+      views_is ∙
       ap (λ (target : ArrayRef). some_clash target (leaf_values (views_bound bank.views) steps)) target_is)

@@ -1,5 +1,6 @@
 -- Arguments in the registers of their parameters, one after another.
-use Rattle.std.proofs.Common.{◌≡◌, ◌∙◌, refl, ℕ, zero, suc, ◌+◌, ℤ, true, List, [], ◌∷◌, map, drop, replicate, Option, None, ap}
+use Rattle.std.proofs.Common.{◌≡◌, ◌∙◌, refl, ℕ, zero, suc, ◌+◌, ℤ, true, List, [], ◌∷◌, map, drop, replicate, Option}
+use Rattle.std.proofs.Common.{None, ap}
 use Rattle.krn_base.specs.declared.kind.ParamType.{ParamType}
 use Rattle.krn_base.specs.declared.kind.ParamType.TheVariants.{Scalar, Flat, Strided}
 use Rattle.view_places.specs.declared.shape.Array.{Array}
@@ -64,7 +65,8 @@ array_entered (Strided kind n ∷ types) a xs w v s h = refl
 pub none_bound : {A : Type 0} (f : Option A → Bound) (n : ℕ) → f None ≡ Unbound →
     map f (replicate n None) ≡ replicate n Unbound
 none_bound f zero e = refl
-none_bound f (suc n) e = ap (λ (b : Bound). b ∷ map f (replicate n None)) e ∙ ap (λ (bs : List Bound). Unbound ∷ bs) (none_bound f n e)
+none_bound f (suc n) e = ap (λ (b : Bound). b ∷ map f (replicate n None)) e ∙ ap (λ (bs : List Bound). Unbound ∷
+    bs) (none_bound f n e)
 
 pub alike_more : (types : List ParamType) (a : Arg) (xs : List Arg) → are_alike types (a ∷ xs) ≡ true →
     are_alike (drop 1 types) xs ≡ true

@@ -1,6 +1,7 @@
 -- What the steps of a template read, one step after another, and that a leaf reads its elements.
 use Rattle.std.proofs.Common.{arith, ◌≡◌, ◌∙◌, ap, sym, refl, ℕ, zero, suc, ◌+◌, ◌*◌, ◌<◌}
-use Rattle.std.proofs.Common.{List, [], ◌∷◌, ◌++◌, map, length, ℤ, pos, Option, Some, None, slice_index_or, length-append}
+use Rattle.std.proofs.Common.{List, [], ◌∷◌, ◌++◌, map, length, ℤ, pos, Option, Some, None, slice_index_or}
+use Rattle.std.proofs.Common.{length-append}
 use Rattle.std.specs.List.{flat_map, range_with_len}
 use Rattle.std.proofs.lemmas.List.{get_or-map, get_or-replicate, length-map}
 use Rattle.view_places.specs.Arrays.{element_count, indices, spread}
@@ -42,7 +43,8 @@ rows_count rest m a (suc n) e =
     let first : length (map (λ index. a ∷ index) rest) ≡ length rest = length-map rest (λ index. a ∷ index) in
     let others : length (flat_map (λ i. map (λ index. i ∷ index) rest) (range_with_len (a + 1) n)) ≡ n * m =
     rows_count rest m (a + 1) n e in
-    length-append (map (λ index. a ∷ index) rest) (flat_map (λ i. map (λ index. i ∷ index) rest) (range_with_len (a + 1) n))
+    length-append (map (λ index. a ∷ index) rest) (flat_map (λ i. map (λ index. i ∷ index) rest) (range_with_len (a
+    + 1) n))
     ∙ omega (arith, first, others, e)
 
 pub index_count : (ns : List ℕ) → length (indices ns) ≡ element_count ns
@@ -61,7 +63,8 @@ leaf_word ns (Some v) buffers k below =
     get_or-map (word_at buffers v.buffer) (spread 0 (extents v) ns (places v)) k 0 (pos 0)
     (omega (arith, below, long, count))
 
-pub view_at : (views : List (Option View)) (v : ℕ) → view_in (views_bound views) v ≡ view_bound (slice_index_or views v None)
+pub view_at : (views : List (Option View)) (v : ℕ) → view_in (views_bound views) v ≡ view_bound (slice_index_or
+    views v None)
 view_at [] v = refl
 view_at (x ∷ views) zero = refl
 view_at (x ∷ views) (suc v) = view_at views v

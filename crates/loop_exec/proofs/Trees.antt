@@ -43,4 +43,5 @@ module _ (P : Statement → Type 0) where
   -- what follows for a statement from its inner ones follows for all
   pub by_layers : ((y : l.Statement-F (Good P)) → P (roll-Statement (map-Statement (Good P) Statement (λ g. g.0) y))) →
       (x : Statement) → P x
-  by_layers layer = ind-Statement P (λ x y is. subst (λ (z : l.Statement-F Statement). P (roll-Statement z)) is (layer y))
+  by_layers layer = ind-Statement P (λ x y is. subst (λ (z : l.Statement-F Statement). P (roll-Statement z)) is
+      (layer y))

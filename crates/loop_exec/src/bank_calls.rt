@@ -1,5 +1,6 @@
 //! The first bank of a call, and what a last one leaves.
-ghost use Rattle.std.specs.Prelude.{◌≡◌, ◌∷◌, ◌+◌, ◌<◌, ◌^◌, IfOk, List, None, drop, length, map, replicate, take, true};
+ghost use Rattle.std.specs.Prelude.{◌≡◌, ◌∷◌, ◌+◌, ◌<◌, ◌^◌, IfOk, List, None, drop, length, map, replicate, take};
+ghost use Rattle.std.specs.Prelude.{true};
 ghost use Rattle.eager_rules.specs.Fits.{Fits};
 ghost use Rattle.eager_rules.specs.State.{bound_to};
 ghost use Rattle.eager_rules.specs.declared.call.Arg.{Arg as AnyArg};

@@ -159,7 +159,8 @@ pub fn run_program(
     call: &Call,
 ) -> Result<Ran, NoMemory>
     requires runnable { kernels_runnable program.now.kernels ≡ true }
-    requires fits { (k : AnyKernel) → slice_get program.now.kernels kernel ≡ Some k → Fits (types_of_params k) call.now }
+    requires fits { (k : AnyKernel) → slice_get program.now.kernels kernel ≡ Some k → Fits (types_of_params k)
+        call.now }
     ensures { IfOk result (λ r. of_run r ≡ serial program.now kernel call.now) }
 {
     match program.kernels.as_slice().get(kernel as usize) {

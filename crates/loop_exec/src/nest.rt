@@ -79,7 +79,8 @@ fn is_clash(frame: &View, leaf: &Option<Leaf>) -> bool
 /// Whether the verdict on some leaf is `Clash`.
 pub fn some_clash(e: &Element<'_>) -> bool
     requires { IsReady e.now }
-    ensures { result ≡ some_clash_of (array_of e.now.frame.now) (leaf_values (views_bound e.now.views.now) e.now.steps.now) }
+    ensures { result ≡ some_clash_of (array_of e.now.frame.now) (leaf_values (views_bound e.now.views.now)
+        e.now.steps.now) }
 {
     for i in 0..e.steps.len() {
         if is_clash(e.frame, &e.leaves[i]) {

@@ -1,5 +1,6 @@
 //! The values of a template's steps so far, the latest last. The steps are at most 64, and so are the values.
-ghost use Rattle.std.specs.Prelude.{◌≡◌, ◌∷◌, [], ◌+◌, ◌<◌, ◌≤◌, ℕ, ℤ, List, Some, None, reverse, pos, true, slice_index_or};
+ghost use Rattle.std.specs.Prelude.{◌≡◌, ◌∷◌, [], ◌+◌, ◌<◌, ◌≤◌, ℕ, ℤ, List, Some, None, reverse, pos, true};
+ghost use Rattle.std.specs.Prelude.{slice_index_or};
 ghost use Rattle.array_ops.specs.Elements.{Bound, choose};
 ghost use Rattle.arrayvec.specs.ArrayVec.{array_vec_len};
 ghost use Rattle.loop_prog.specs.Conditions.{small_power};

@@ -114,8 +114,8 @@ pub fn put(
 ) -> Result<Ending, NoMemory>
     ensures { IfOk result (λ e. (reached run.new, end_of e) ≡
         finish []
-        (put_work at (view (reached run.old) of ∷ operand (reached run.old) value ∷ operands (reached run.old) index.now)
-        run.old.bank.buffers) (reached run.old)) }
+        (put_work at (view (reached run.old) of ∷ operand (reached run.old) value
+        ∷ operands (reached run.old) index.now) run.old.bank.buffers) (reached run.old)) }
 {
     let index = words_of(alloc, run.bank.words.as_slice(), index)?;
     let target = array(run.bank.views.as_slice(), of);

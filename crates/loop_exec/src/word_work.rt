@@ -3,7 +3,8 @@ ghost use Rattle.std.specs.Prelude.{◌≡◌, ◌∷◌, [], ℤ, List, IfOk, O
 ghost use Rattle.array_ops.specs.Arrays.{array_of, with_word, word_at};
 ghost use Rattle.array_ops.specs.Elements.{WordOf};
 ghost use Rattle.array_ops.specs.Subscripts.{and_then, element_place};
-ghost use Rattle.eager_rules.specs.Works.{as_word, changed, extent_of, move_work, valued, word_of, word_result, word_work};
+ghost use Rattle.eager_rules.specs.Works.{as_word, changed, extent_of, move_work, valued, word_of, word_result};
+ghost use Rattle.eager_rules.specs.Works.{word_work};
 ghost use Rattle.eager_rules.specs.Works.{Made as MadeOf};
 ghost use Rattle.loop_exec.specs.Banks.{words_bound};
 ghost use Rattle.loop_exec.specs.Running.{nothing_done, word_done};
@@ -102,7 +103,8 @@ pub fn extent(axis: Option<u8>, view: &View) -> WordMade
 
 /// The element of an array at an index for each dimension, or a fault.
 pub fn element(at: Loc, view: &View, index: &[i64], buffers: &[Seq<i64>]) -> WordMade
-    ensures { word_done buffers.now result ≡ valued buffers.now at (and_then (element_place (array_of view.now) index.now)
+    ensures { word_done buffers.now result ≡ valued buffers.now at (and_then (element_place (array_of view.now)
+        index.now)
         (λ place. Ok (WordOf (word_at buffers.now view.now.buffer place)))) }
 {
     match element_place(view, index) {

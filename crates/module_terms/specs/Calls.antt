@@ -21,7 +21,8 @@ use Rattle.module_terms.specs.declared.term.Term.{Term, out-Term}
 use Rattle.module_terms.specs.declared.term.Part.TheOpen.{Term-F, Part-F}
 use Rattle.module_terms.specs.declared.term.Term.TheVariants as t
 use Rattle.module_terms.specs.Numpy.{is_numpy}
-use Rattle.module_terms.specs.Rows.{is_word, apply, with_step, settled, built_in, method, numpy_function, field, fill_of}
+use Rattle.module_terms.specs.Rows.{is_word, apply, with_step, settled, built_in, method, numpy_function, field}
+use Rattle.module_terms.specs.Rows.{fill_of}
 use Rattle.module_terms.specs.Rows.{own_kind, numpy_kind}
 
 -- `x.name`, not called
@@ -130,7 +131,8 @@ call at plain keyed (r.Named name) = call_name name (map finish plain)
 call at plain keyed (r.Member name) = call_member name plain keyed
 call at plain keyed (r.Attribute x name) = call_method x name (map finish plain)
 call at plain keyed (r.Value x) = with_step x (s.Operate op.None at (map finish plain))
-call at plain keyed (r.Tuple start items) = with_step (t.Apply op.None start items) (s.Operate op.None at (map finish plain))
+call at plain keyed (r.Tuple start items) = with_step (t.Apply op.None start items) (s.Operate op.None at (map
+    finish plain))
 
 -- ---- subscripts
 

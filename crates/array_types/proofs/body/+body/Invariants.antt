@@ -1,7 +1,8 @@
 use Rattle.std.proofs.Common.{◌≡◌, ◌+◌, ◌*◌, drop, map, [], ℕ, List, max}
 use denote.Param.Weighed.{most}
 use Rattle.module_terms.specs.declared.term.Term.{size-Term}
-use Rattle.array_types.specs.Forms.{values_from, subs_from, chained, followed, link_of, term, part, step, in_order, line}
+use Rattle.array_types.specs.Forms.{values_from, subs_from, chained, followed, link_of, term, part, step, in_order}
+use Rattle.array_types.specs.Forms.{line}
 use Rattle.array_types.specs.Modules.{calls_at}
 use Rattle.array_types.specs.Weights.{line_weight, block_weight, deepest}
 use Rattle.module_terms.specs.declared.term.Routine.{Routine}

@@ -9,7 +9,8 @@ loop-i-preserved c =
     let inside : c.loop-i.i < length c.loop-i.places =
     (let few = c.requires.ready.few in let size = c.loop-i.invariant.0 in let below = c.loop-i-test.true in
     omega (arith, few, size, below)) in
-    let there : c.loop-i.i < length c.args.e.now.leaves.now = (let few = c.requires.ready.few in let room = c.requires.ready.room in let below = c.loop-i-test.true in omega (arith, few, room, below)) in
+    let there : c.loop-i.i < length c.args.e.now.leaves.now = (let few = c.requires.ready.few in let room =
+    c.requires.ready.room in let below = c.loop-i-test.true in omega (arith, few, room, below)) in
     let leaf : slice_index_or c.args.e.now.leaves.now c.loop-i.i c.index-e-i.result ≡
     slice_index_or c.args.e.now.leaves.now c.loop-i.i None =
     get_or_default c.args.e.now.leaves.now c.loop-i.i c.index-e-i.result None there in (

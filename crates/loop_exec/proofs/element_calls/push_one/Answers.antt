@@ -26,7 +26,8 @@ returns-in-Leaf-clause-value c =
     let fits : FitsSigned w64 c.read.result = search rules in
     c.push.ensures.value ∙
     ap (λ (z : ℤ). z ∷ reverse c.args.stack.now.items)
-    (word_kept c.read.result fits ∙ here ∙ sym (leaf_reads ns c.args.e.now.views.now c.in-Leaf.field-0 c.args.buffers.now c.args.number
+    (word_kept c.read.result fits ∙ here ∙ sym (leaf_reads ns c.args.e.now.views.now c.in-Leaf.field-0
+    c.args.buffers.now c.args.number
     c.requires.below)) ∙
     ap (λ (s : TemplateStep). push words views ns c.args.buffers.now c.args.number s (reverse c.args.stack.now.items))
     (sym c.in-Leaf.is)

@@ -1,4 +1,5 @@
-use Rattle.std.proofs.Common.{arith, rules, ◌≡◌, ◌<◌, ◌∙◌, ap, sym, ℕ, ◌+◌, ◌-◌, List, ◌∷◌, ◌++◌, drop, length, length-append, slice_get, slice_index_or}
+use Rattle.std.proofs.Common.{arith, rules, ◌≡◌, ◌<◌, ◌∙◌, ap, sym, ℕ, ◌+◌, ◌-◌, List, ◌∷◌, ◌++◌, drop, length}
+use Rattle.std.proofs.Common.{length-append, slice_get, slice_index_or}
 use Rattle.std.proofs.lemmas.List.{drop_more}
 use Rattle.std.proofs.lemmas.Option.{IfSome_then}
 use Rattle.loop_prog.specs.Statements.{statements}

@@ -1,4 +1,5 @@
-use Rattle.std.proofs.Common.{arith, ◌≡◌, ◌<◌, ◌∙◌, ap, sym, ◌+◌, Bool, true, false, ◌||◌, None, List, drop, length, slice_index_or}
+use Rattle.std.proofs.Common.{arith, ◌≡◌, ◌<◌, ◌∙◌, ap, sym, ◌+◌, Bool, true, false, ◌||◌, None, List, drop, length}
+use Rattle.std.proofs.Common.{slice_index_or}
 use Rattle.std.specs.List.{list_any}
 use Rattle.std.proofs.lemmas.List.{get_or_default}
 use Rattle.array_ops.specs.Arrays.{ArrayRef, array_of}

@@ -15,7 +15,8 @@ put_words-requires c =
 pub returns-clause-stored : goal.returns-clause-stored
 returns-clause-stored c =
     c.put_words.ensures ∙
-    same_words c.args.buffers.now c.args.e.now.frame.now.buffer (places c.args.e.now.frame.now) c.as_slice-2.result.now ∙
+    same_words c.args.buffers.now c.args.e.now.frame.now.buffer (places c.args.e.now.frame.now)
+    c.as_slice-2.result.now ∙
     ap (with_words c.args.buffers.now c.args.e.now.frame.now.buffer (places c.args.e.now.frame.now))
     (c.as_slice-2.ensures ∙ c.in_ok-words.ensures ∙
     ap (λ (bs : List (List ℤ)). map (each_of c.args.e.now bs)

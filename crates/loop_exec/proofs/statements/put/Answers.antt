@@ -23,7 +23,8 @@ returns c =
     let index : c.as_slice-4.result.now ≡
     map word_of (map (operand_in (words_bound c.args.run.now.bank.words)) c.args.index.now) =
     c.as_slice-4.ensures ∙ c.in_ok-index.ensures ∙
-    ap (λ (ws : List (Option ℤ)). map word_of (map (operand_in (words_bound ws)) c.args.index.now)) c.as_slice.ensures in
+    ap (λ (ws : List (Option ℤ)). map word_of (map (operand_in (words_bound ws)) c.args.index.now))
+    c.as_slice.ensures in
     let value : to_z w64 (of_z w64 c.word-value.result) ≡
     word_of (operand_in (words_bound c.args.run.now.bank.words) c.args.value) =
     word_kept c.word-value.result fits ∙ c.word-value.ensures ∙

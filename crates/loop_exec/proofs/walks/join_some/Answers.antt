@@ -12,7 +12,8 @@ loop-done-preserved c =
     let value_fits : FitsSigned w64 c.value-in-loop-done.result = search rules in (
       word_kept c.join-total-in-loop-done.result fits ∙ c.join-total-in-loop-done.ensures ∙
           joined_more c.args.op (each_of c.args.e.now c.args.buffers.now) (to_z w64 c.loop-done.total-bits)
-          (to_z w64 (of_z w64 c.value-in-loop-done.result)) c.advance.new.walk.odometer.number c.loop-done._done c.loop-done.invariant.0
+          (to_z w64 (of_z w64 c.value-in-loop-done.result)) c.advance.new.walk.odometer.number c.loop-done._done
+          c.loop-done.invariant.0
           (word_kept c.value-in-loop-done.result value_fits ∙ c.value-in-loop-done.ensures) number,
       (omega (arith, number), c.advance.ensures.stands),
     )

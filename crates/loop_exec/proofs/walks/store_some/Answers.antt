@@ -1,4 +1,5 @@
-use Rattle.std.proofs.Common.{arith, rules, ◌≡◌, ◌<◌, ◌∙◌, ap, sym, ℕ, List, ℤ, length, FitsSigned, w64, to_z, of_z, drop}
+use Rattle.std.proofs.Common.{arith, rules, ◌≡◌, ◌<◌, ◌∙◌, ap, sym, ℕ, List, ℤ, length, FitsSigned, w64, to_z, of_z}
+use Rattle.std.proofs.Common.{drop}
 use Rattle.std.specs.Prelude.{slice_index}
 use Rattle.overlap.specs.Walks.{in_place}
 use Rattle.view_places.specs.Spread.{places as places_read}

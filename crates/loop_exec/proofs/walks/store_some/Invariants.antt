@@ -11,4 +11,5 @@ invariant-loop-done l =
     (in_place (each_of l.e) l.e.frame.now.buffer (l.walk.odometer.number + 1)
     (drop (l.walk.odometer.number + 1) (places l.e.frame.now)) l.buffers ≡
     in_place (each_of l.e) l.e.frame.now.buffer 0 (places l.e.frame.now) l.fn.buffers)
-    × ((l.walk.odometer.number + 1 ≡ l._done) × (StandsIn l.e l.walk × (l.place ≡ place_at l.walk.odometer.number l.own)))
+    × ((l.walk.odometer.number + 1 ≡ l._done) × (StandsIn l.e l.walk × (l.place ≡ place_at l.walk.odometer.number
+    l.own)))

@@ -20,7 +20,8 @@ returns-in-Err-Refused-clause-one c =
     let signatures = c.args.signatures.now in
     let directives = c.args.directives.now in
     let last = Serves c.args.command signatures directives c.args.program in
-    let P : Refusal → Type 0 = λ r. IsOne (IsCoreReading c.args.command tree signatures directives c.args.program) (Err r) in
+    let P : Refusal → Type 0 = λ r. IsOne (IsCoreReading c.args.command tree signatures directives c.args.program)
+    (Err r) in
     subst P (sym c.in-Err-Refused.refused-is)
     (refused_one (Assigned tree signatures) (λ _. last) c.in-Err-Refused.field-0
     c.in-Err-Refused.refused c.in-Err-Refused.field-0-is c.in-Err-Refused.ensures)
