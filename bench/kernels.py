@@ -70,7 +70,7 @@ def five_points(m):
 
 #pythran export transposed(int64[:,:])
 def transposed(m):
-    c = m + m.T
+    c = m.T + 1
     return c[-1, 0]
 
 

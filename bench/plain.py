@@ -62,7 +62,7 @@ def five_points(m):
 
 
 def transposed(m):
-    c = [[x + y for x, y in zip(row, column)] for row, column in zip(m, zip(*m))]
+    c = [[x + 1 for x in column] for column in zip(*m)]
     return c[-1][0]
 
 
