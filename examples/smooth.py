@@ -1,3 +1,4 @@
+# Rounds of a smoothing store, which reads the array that it writes.
 import numpy as np
 
 #pythran export smooth(int[::], int)
