@@ -1,3 +1,4 @@
+# The sum of two arrays.
 #pythran export add(int[], int[])
 def add(a, b):
     return a + b
