@@ -10,6 +10,7 @@ pub mod OneShape
 pub mod OneView
 pub mod Operations
 pub mod PartLemmas
+pub mod OwnShapes
 pub mod Picks
 pub mod Reach
 pub mod RowLemmas

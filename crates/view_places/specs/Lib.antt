@@ -1,5 +1,6 @@
 pub mod Alignment
 pub mod Arrays
+pub mod Laws
 pub mod Rows
 pub mod Shape
 pub mod Slice

@@ -4,6 +4,7 @@
 mod aligned;
 mod axes;
 mod counting;
+mod laws;
 mod leaps;
 mod limits;
 mod odometer;
@@ -25,6 +26,7 @@ mod view_calls;
 mod walk;
 
 pub use aligned::{broadcast, broadcast_all};
+pub use laws::broadcast_law;
 pub use leaps::advanced;
 pub use odometer::Odometer;
 pub use shape::{Array, Index, MAX_ELEMENTS, Shape};
