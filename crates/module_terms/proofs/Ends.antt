@@ -1,5 +1,5 @@
 -- The last of a list, apart from the others.
-use Rattle.std.proofs.Common.{◌≡◌, List, [], ◌∷◌, ◌++◌, refl, ap, Option, Some, None}
+use Rattle.std.proofs.Common.{◌≡◌, List, [], ◌∷◌, ◌++◌, refl, ap, Option, Some}
 use Rattle.module_terms.specs.declared.term.Step.{Step}
 use Rattle.module_terms.specs.Lines.{behind, split_last}
 

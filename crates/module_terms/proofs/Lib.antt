@@ -4,3 +4,4 @@ pub mod Inside
 pub mod Weights
 pub mod Blocks
 pub mod Ends
+pub mod Places

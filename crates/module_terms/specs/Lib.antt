@@ -3,3 +3,4 @@ pub mod Numpy
 pub mod Calls
 pub mod Expressions
 pub mod Lines
+pub mod Targets

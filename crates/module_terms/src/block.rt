@@ -7,8 +7,8 @@ use crate::build::{append, copy_name, one};
 use crate::expression::{term, terms};
 use crate::numpy::Numpy;
 use crate::statement::{alone, assign, augment, head};
+use crate::targets::{Targets, number_at};
 use crate::term::Line;
-use export_sig::Directive;
 use krn_base::{BinOp, Join, Loc, Seq};
 use py_parse::{Expr, Name, Stmt};
 use std::alloc::{AllocError, Global};
@@ -23,27 +23,24 @@ fn copy_reductions(alloc: Global, pairs: &[(Join, Name)]) -> Result<Seq<(Join, N
     Ok(copies)
 }
 
-fn is_place(a: Loc, b: Loc) -> bool
-    ensures { result ≡ spec.is_place a b }
-{
-    a.line == b.line && a.col == b.col
-}
-
 /// The reductions of the directive whose target is this place.
 fn reductions_at(
     alloc: Global,
     at: Loc,
-    directives: &[Directive],
+    targets: &Targets<'_>,
 ) -> Result<Option<Seq<(Join, Name)>>, AllocError>
-    ensures { IfOk result (λ found. found ≡ spec.reductions_at at directives.now) }
+    ensures { IfOk result (λ found. found ≡ spec.reductions_at at targets.now.directives.now) }
 {
-    for directive in directives {
-        if is_place(directive.target, at) {
-            let copies = copy_reductions(alloc, directive.reductions.as_slice())?;
-            return Ok(Some(copies));
-        }
+    match number_at(targets, at) {
+        None => Ok(None),
+        Some(n) => match targets.directives.get(n) {
+            None => Ok(None),
+            Some(directive) => {
+                let copies = copy_reductions(alloc, directive.reductions.as_slice())?;
+                Ok(Some(copies))
+            }
+        },
     }
-    Ok(None)
 }
 
 fn give(line: Option<Line>, out: &mut Seq<Line>) -> Result<(), AllocError>
@@ -118,10 +115,11 @@ fn add_augment(
 fn add_lines(
     statement: &Stmt,
     numpy: &Numpy<'_>,
-    directives: &[Directive],
+    targets: &Targets<'_>,
     out: &mut Seq<Line>,
 ) -> Result<(), AllocError>
-    ensures { OnOk result (out.new ≡ out.old ++ spec.lines numpy.now.imports.now directives.now statement.now) }
+    ensures { OnOk result (out.new ≡ out.old
+        ++ spec.lines numpy.now.imports.now targets.now.directives.now statement.now) }
 {
     match statement {
         Stmt::Doc => Ok(()),
@@ -134,7 +132,7 @@ fn add_lines(
             arms.as_slice(),
             otherwise.as_slice(),
             numpy,
-            directives,
+            targets,
             out,
         ),
         Stmt::For(at, var, over, body) => add_loop(
@@ -143,7 +141,7 @@ fn add_lines(
             var,
             over,
             numpy,
-            directives,
+            targets,
             out,
         ),
     }
@@ -156,16 +154,16 @@ fn add_loop(
     var: &Name,
     over: &Expr,
     numpy: &Numpy<'_>,
-    directives: &[Directive],
+    targets: &Targets<'_>,
     out: &mut Seq<Line>,
 ) -> Result<(), AllocError>
-    ensures { OnOk result (out.new ≡ out.old ++ spec.looped numpy.now.imports.now directives.now at var.now over.now
-        (spec.block numpy.now.imports.now directives.now body.now)) }
+    ensures { OnOk result (out.new ≡ out.old ++ spec.looped numpy.now.imports.now targets.now.directives.now at var.now
+        over.now (spec.block numpy.now.imports.now targets.now.directives.now body.now)) }
 {
     let over = term(over, numpy)?;
-    let omp = reductions_at(numpy.alloc, at, directives)?;
+    let omp = reductions_at(numpy.alloc, at, targets)?;
     let head = head(numpy.alloc, at, copy_name(var)?, over, omp);
-    let body = block(body, numpy, directives)?;
+    let body = block(body, numpy, targets)?;
     out.push(Line::For(head, body))
 }
 
@@ -174,15 +172,15 @@ fn add_if(
     arms: &[(Loc, Expr, Seq<Stmt>)],
     otherwise: &[Stmt],
     numpy: &Numpy<'_>,
-    directives: &[Directive],
+    targets: &Targets<'_>,
     out: &mut Seq<Line>,
 ) -> Result<(), AllocError>
     ensures { OnOk result (out.new ≡ out.old ++ spec.branches numpy.now.imports.now
-        (map (spec.arm numpy.now.imports.now directives.now) arms.now)
-        (spec.block numpy.now.imports.now directives.now otherwise.now)) }
+        (map (spec.arm numpy.now.imports.now targets.now.directives.now) arms.now)
+        (spec.block numpy.now.imports.now targets.now.directives.now otherwise.now)) }
 {
-    let no = block(otherwise, numpy, directives)?;
-    let lines = branches(arms, no, numpy, directives)?;
+    let no = block(otherwise, numpy, targets)?;
+    let lines = branches(arms, no, numpy, targets)?;
     append(out, lines)
 }
 
@@ -192,17 +190,17 @@ fn branches(
     arms: &[(Loc, Expr, Seq<Stmt>)],
     otherwise: Seq<Line>,
     numpy: &Numpy<'_>,
-    directives: &[Directive],
+    targets: &Targets<'_>,
 ) -> Result<Seq<Line>, AllocError>
     ensures { IfOk result (λ lines. lines ≡ spec.branches numpy.now.imports.now
-        (map (spec.arm numpy.now.imports.now directives.now) arms.now) otherwise) }
+        (map (spec.arm numpy.now.imports.now targets.now.directives.now) arms.now) otherwise) }
 {
     let mut no = otherwise;
     for back in 0..arms.len() {
         let at = arms.len() - 1 - back;
         let arm = &arms[at];
         let condition = term(&arm.1, numpy)?;
-        let yes = block(arm.2.as_slice(), numpy, directives)?;
+        let yes = block(arm.2.as_slice(), numpy, targets)?;
         no = one(numpy.alloc, Line::If(arm.0, condition, yes, no))?;
     }
     Ok(no)
@@ -213,13 +211,14 @@ fn branches(
 pub fn block(
     statements: &[Stmt],
     numpy: &Numpy<'_>,
-    directives: &[Directive],
+    targets: &Targets<'_>,
 ) -> Result<Seq<Line>, AllocError>
-    ensures { IfOk result (λ lines. lines ≡ spec.block numpy.now.imports.now directives.now statements.now) }
+    ensures { IfOk result (λ lines. lines
+        ≡ spec.block numpy.now.imports.now targets.now.directives.now statements.now) }
 {
     let mut out = Seq::new(numpy.alloc);
     for statement in statements {
-        add_lines(statement, numpy, directives, &mut out)?;
+        add_lines(statement, numpy, targets, &mut out)?;
     }
     Ok(out)
 }

@@ -6,6 +6,7 @@ ghost use Rattle.module_terms.specs.Lines as spec;
 use crate::block::block;
 use crate::build::{copy_name, copy_names};
 use crate::numpy::{Numpy, numpy_of};
+use crate::targets::{Targets, targets_of};
 use crate::term::Routine;
 use export_sig::Directive;
 use krn_base::{NoMemory, Seq};
@@ -15,15 +16,15 @@ use std::alloc::{AllocError, Global};
 fn routine(
     function: &Function,
     numpy: &Numpy<'_>,
-    directives: &[Directive],
+    targets: &Targets<'_>,
 ) -> Result<Routine, AllocError>
-    ensures { IfOk result (λ r. r ≡ spec.routine numpy.now.imports.now directives.now function.now) }
+    ensures { IfOk result (λ r. r ≡ spec.routine numpy.now.imports.now targets.now.directives.now function.now) }
 {
     Ok(Routine {
         name: copy_name(&function.name)?,
         params: copy_names(numpy.alloc, function.params.as_slice())?,
         weight: function.weight,
-        body: block(function.body.as_slice(), numpy, directives)?,
+        body: block(function.body.as_slice(), numpy, targets)?,
     })
 }
 
@@ -35,9 +36,10 @@ fn routines(
     ensures { IfOk result (λ list. list ≡ spec.routines «module».now directives.now) }
 {
     let numpy = numpy_of(alloc, module.imports.as_slice())?;
+    let targets = targets_of(alloc, directives)?;
     let mut list = Seq::new(alloc);
     for function in module.functions.as_slice() {
-        list.push(routine(function, &numpy, directives)?)?;
+        list.push(routine(function, &numpy, &targets)?)?;
     }
     Ok(list)
 }

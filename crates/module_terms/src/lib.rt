@@ -14,6 +14,7 @@ mod numpy;
 mod reached;
 mod rows;
 mod statement;
+mod targets;
 mod term;
 #[cfg(test)]
 mod tests;

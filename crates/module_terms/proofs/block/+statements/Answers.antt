@@ -40,18 +40,20 @@ block-add_lines-requires t c =
 pub block-loop-statement-preserved : goal.block-loop-statement-preserved
 block-loop-statement-preserved t c =
     let at : c.loop-statement.statement-index < length c.args.statements.now = omega arith in
-    joins (block c.args.numpy.now.imports.now c.args.directives.now) _ _ c.statement-item.result _ _ _ _
+    joins (block c.args.numpy.now.imports.now c.args.targets.now.directives.now) _ _ c.statement-item.result _ _ _ _
     (item_here c.args.statements.now c.loop-statement.statement-index c.statement-item.result at c.statement-item.is)
     refl c.loop-statement.invariant c.in_ok-add_lines.ensures
 
 pub branches-loop-back-init : goal.branches-loop-back-init
 branches-loop-back-init t c =
-    none_behind c.args.numpy.now.imports.now c.args.directives.now c.args.arms.now c.args.otherwise
+    none_behind c.args.numpy.now.imports.now c.args.targets.now.directives.now c.args.arms.now c.args.otherwise
 
 pub branches-loop-back-preserved : goal.branches-loop-back-preserved
 branches-loop-back-preserved t c =
     let x = c.index-arms-at.result in
-    one_more c.args.numpy.now.imports.now c.args.directives.now c.args.arms.now c.args.otherwise c.loop-back.back x
+    one_more c.args.numpy.now.imports.now c.args.targets.now.directives.now c.args.arms.now c.args.otherwise
+    c.loop-back.back x
     c.loop-back.no c.in_ok-no.no c.loop-back-test.true c.index-arms-at.is c.loop-back.invariant
     (c.in_ok-no.ensures ∙ ap₂ (λ a b. l.If x.0 a b c.loop-back.no ∷ []) c.in_ok-condition.ensures
-    (c.in_ok-yes.ensures ∙ ap (block c.args.numpy.now.imports.now c.args.directives.now) c.as_slice.ensures))
+    (c.in_ok-yes.ensures
+    ∙ ap (block c.args.numpy.now.imports.now c.args.targets.now.directives.now) c.as_slice.ensures))

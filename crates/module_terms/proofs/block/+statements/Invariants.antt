@@ -20,11 +20,11 @@ decreases-add_loop l = 4 * block_weight l.body.now + 3
 
 abbrev pub invariant-branches-loop-back : goal.invariant-branches-loop-back
 invariant-branches-loop-back l =
-    branches l.numpy.imports.now (map (arm l.numpy.imports.now l.directives)
+    branches l.numpy.imports.now (map (arm l.numpy.imports.now l.targets.directives.now)
     (drop (length l.arms - l.back) l.arms)) l.fn.otherwise
     ≡ l.no
 
 abbrev pub invariant-block-loop-statement : goal.invariant-block-loop-statement
 invariant-block-loop-statement l =
-    l.out ++ block l.numpy.imports.now l.directives (drop l.statement-index l.statements)
-    ≡ block l.numpy.imports.now l.directives l.statements
+    l.out ++ block l.numpy.imports.now l.targets.directives.now (drop l.statement-index l.statements)
+    ≡ block l.numpy.imports.now l.targets.directives.now l.statements

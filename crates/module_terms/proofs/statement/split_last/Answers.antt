@@ -1,6 +1,5 @@
-use Rattle.std.proofs.Common.{rules, ◌≡◌, ◌∷◌, ◌++◌, [], List, ap, sym, ◌∙◌}
+use Rattle.std.proofs.Common.{rules, ◌≡◌, ◌∷◌, ◌++◌, [], ap, sym, ◌∙◌}
 use Rattle.module_terms.specs.Lines.{split_last}
-use Rattle.module_terms.specs.declared.term.Step.{Step}
 use Rattle.module_terms.proofs.Ends.{last_apart}
 use Rattle.module_terms.proofs.statement.split_last.Goals as goal
 
