@@ -2,12 +2,7 @@
 use Rattle.std.proofs.Common.{◌≡◌, ap, subst, sym, refl, ℕ, zero, suc, List, [], ◌∷◌, ◌++◌, length, take}
 use Rattle.std.proofs.Common.{slice_index_or, slice_get, Some, None}
 use Rattle.std.specs.Prelude.{slice_set, Option, unwrap_or}
-
-abbrev pub Each : {A B : Type 0} → (A → B → Type 0) → List A → List B → Type 0
-Each R [] [] = Unit {0}
-Each R [] (y ∷ ys) = ⊥
-Each R (x ∷ xs) [] = ⊥
-Each R (x ∷ xs) (y ∷ ys) = R x y × Each R xs ys
+use Rattle.eager_rules.specs.TypedStates.{Each, Extends}
 
 pub some_same : {A : Type 0} (a b : A) → Some a ≡ Some b → a ≡ b
 some_same a b e = ap (λ (o : Option _). unwrap_or o a) e
@@ -56,12 +51,6 @@ each_more R S f [] [] h = tt
 each_more R S f [] (y ∷ ys) h = h
 each_more R S f (x ∷ xs) [] h = h
 each_more R S f (x ∷ xs) (y ∷ ys) h = (f x y h.0, each_more R S f xs ys h.1)
-
--- a list begins with another
-abbrev pub Extends : {A : Type 0} → List A → List A → Type 0
-Extends [] more = Unit {0}
-Extends (x ∷ xs) [] = ⊥
-Extends (x ∷ xs) (y ∷ more) = (x ≡ y) × Extends xs more
 
 module _ {A : Type 0} where
   pub extends_refl : (xs : List A) → Extends xs xs

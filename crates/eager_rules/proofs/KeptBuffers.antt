@@ -12,11 +12,11 @@ use Rattle.krn_base.specs.declared.kind.Kind.{Kind}
 use Rattle.view_places.specs.declared.shape.Array.{Array}
 use Rattle.array_ops.specs.Arrays.{words_of}
 use Rattle.array_ops.specs.Elements.{Bound, Unbound}
-use Rattle.eager_rules.proofs.Each.{Each, each_get, each_length, each_take, none_some, some_same}
-use Rattle.eager_rules.proofs.Typed.{Row, Holds, HoldAll, LiesIn, OfType, OfName, StateOf, Given, Named, DoneOf}
+use Rattle.eager_rules.proofs.Each.{each_get, each_length, each_take, none_some, some_same}
+use Rattle.eager_rules.proofs.Typed.{Named, DoneOf}
 use Rattle.eager_rules.proofs.Typed.{gives_nothing}
 use Rattle.eager_rules.proofs.TypedWorks.{WorkOf, same_all}
-use Rattle.eager_rules.proofs.TypedRuns.{CallsOf, EndOf, all_bound, block_typed}
+use Rattle.eager_rules.proofs.TypedRuns.{CallsOf, all_bound, block_typed, core_typed}
 use Rattle.eager_rules.specs.Blocks.{End, GoesOn, Returned, Faulted, Stuck}
 use Rattle.eager_rules.specs.Eager.{Calls, block, called, calls_at, done_of, entered}
 use Rattle.eager_rules.specs.Fits.{IsFilled, Takes, AreTaken}
@@ -24,6 +24,8 @@ use Rattle.eager_rules.specs.Kept.{FitsInstance, IsKernel, KeepsBuffers}
 use Rattle.eager_rules.specs.Outcome.{buffers_of, ended, instance_outcome, outcome_at, outcome_by, outcome_of}
 use Rattle.eager_rules.specs.Sound.{Head, head_of, IsWellTyped, IsTyped}
 use Rattle.eager_rules.specs.State.{State, bound_to}
+use Rattle.eager_rules.specs.TypedStates.{BeginsTyped, Each, EndOf, Given, HoldAll, Holds, KeepsTypes, LiesIn, OfName}
+use Rattle.eager_rules.specs.TypedStates.{OfType, Row, StateOf}
 use Rattle.eager_rules.specs.Types.{Ty, type_of_param}
 use Rattle.eager_rules.specs.declared.call.Arg.{Arg}
 use Rattle.eager_rules.specs.declared.call.Arg.TheVariants as arg
@@ -184,6 +186,20 @@ instance_kept instances typed f good call fit depth =
     f.body good.body (map row_of call.buffers) (entered f (map bound_to call.args) (buffers_of call))
     (entered_typed (map head_of instances) f good (map row_of call.buffers) (map bound_to call.args) (buffers_of call)
     (begun call.buffers fit.buffers) (all_taken call.buffers f.params call.args fit.args))))
+
+pub keeps_types : (program : Program) → IsTyped program → KeepsTypes program
+keeps_types program typed number f is depth x fit =
+    core_typed (map head_of program.instances) f.rets f.names (calls_at program.instances depth)
+    (calls_typed program.instances typed.instances depth) x fit
+
+pub begins_typed : (program : Program) → IsTyped program → BeginsTyped program
+begins_typed program typed number f is call fit =
+    let good : IsWellTyped (map head_of program.instances) f =
+    at_number (IsWellTyped (map head_of program.instances)) program.instances number f typed.instances is in (
+      map row_of call.buffers,
+      entered_typed (map head_of program.instances) f good (map row_of call.buffers) (map bound_to call.args)
+          (buffers_of call) (begun call.buffers fit.buffers) (all_taken call.buffers f.params call.args fit.args),
+    )
 
 pub buffers_kept : (program : Program) (kernel : ℕ) (call : Call) (f : Instance) → IsKernel program kernel f →
     IsTyped program → FitsInstance f call → KeepsBuffers call (outcome_of program kernel call)

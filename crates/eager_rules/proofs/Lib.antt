@@ -1,6 +1,7 @@
 pub mod Words
 pub mod ListTests
 pub mod Depths
+pub mod BoundNames
 pub mod Ranges
 pub mod Zips
 pub mod SmallPowers
@@ -17,3 +18,6 @@ pub mod Chains
 pub mod Ready
 pub mod NeverStuck
 pub mod ReadNames
+pub mod Holds
+pub mod Others
+pub mod GivenBack

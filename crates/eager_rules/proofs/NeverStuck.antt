@@ -18,7 +18,7 @@ use Rattle.array_ops.specs.Elements.{Bound, Unbound, WordOf, filled, fresh_shape
 use Rattle.array_ops.specs.Elements.{operand_elements, reduced, shape_of, stored_shape}
 use Rattle.array_ops.specs.Subscripts.{and_then, element_place, picked}
 use Rattle.eager_rules.proofs.Chains.{every_by, every_left, every_right, rank, rank_falls, rank_low}
-use Rattle.eager_rules.proofs.Each.{Each, none_some, some_same}
+use Rattle.eager_rules.proofs.Each.{none_some, some_same}
 use Rattle.eager_rules.proofs.KeptBuffers.{at_number}
 use Rattle.eager_rules.proofs.ListTests.{and_left, and_right}
 use Rattle.eager_rules.proofs.Ready.{OfTest, Tests, Covers, FineEnd, SafeBy, GoodDone, bound_tests, step_safe}
@@ -38,6 +38,7 @@ use Rattle.eager_rules.specs.Sound.{all_numbers, reduction_fits, head_of, in_wal
 use Rattle.eager_rules.specs.Sound.{returns_values, shape_of_body, shape_step, takes_values, walk, walk_step}
 use Rattle.eager_rules.specs.State.{State, bound_to, is_bound, operand}
 use Rattle.eager_rules.specs.Statements.{calls_of, calls_step}
+use Rattle.eager_rules.specs.TypedStates.{Each}
 use Rattle.eager_rules.specs.Types.{Ty, is_truth, same_types, type_of, type_of_param, types_of, word_type}
 use Rattle.eager_rules.specs.Works.{Done, Made, Failed, Blocked, array_in, as_array, as_word, changed, made_new}
 use Rattle.eager_rules.specs.Works.{extent_work, flip_work, move_work, range_values, sub_operands, subscripts_of}

@@ -7,7 +7,7 @@ use Rattle.std.specs.Prelude.{nat_lt, slice_set}
 use Rattle.std.specs.List.{list_all}
 use Rattle.krn_base.specs.declared.place.Loc.{Loc}
 use Rattle.array_ops.specs.Elements.{Bound, Unbound, WordOf}
-use Rattle.eager_rules.proofs.Each.{Each, each_get, each_length, none_some, some_same}
+use Rattle.eager_rules.proofs.Each.{each_get, each_length, none_some, some_same}
 use Rattle.eager_rules.proofs.ListTests.{and_left, and_right}
 use Rattle.eager_rules.proofs.TypedRuns.{add_given, some_given}
 use Rattle.eager_rules.proofs.TypedWorks.{not_true}
@@ -17,6 +17,7 @@ use Rattle.eager_rules.specs.Eager.{bind_all, finish, ready, set_variable, step,
 use Rattle.eager_rules.specs.Sound.{Bindings, bound_in, operand_bound, tested, put_all, meet, both, next, stay}
 use Rattle.eager_rules.specs.Sound.{names_fit}
 use Rattle.eager_rules.specs.State.{State, bind, bound_of, is_bound, operand, with_buffers}
+use Rattle.eager_rules.specs.TypedStates.{Each}
 use Rattle.eager_rules.specs.Types.{Ty, type_of, types_of}
 use Rattle.eager_rules.specs.Works.{Done, Made, Failed, Blocked, Work}
 use Rattle.eager_rules.specs.declared.program.Oper.{Oper}

@@ -12,50 +12,14 @@ use Rattle.krn_base.specs.declared.kind.Kind.{Kind}
 use Rattle.krn_base.specs.declared.place.Loc.{Loc}
 use Rattle.array_ops.specs.Arrays.{words_of, word_at, with_word, with_words, elements_at}
 use Rattle.array_ops.specs.Elements.{Bound, Unbound, WordOf, ArrayOf, operand_elements}
-use Rattle.eager_rules.proofs.Each.{Each, Extends, each_get, each_set, each_push, each_last}
+use Rattle.eager_rules.proofs.Each.{each_get, each_set, each_push, each_last}
 use Rattle.eager_rules.proofs.Each.{extends_refl, extends_push, extends_get}
 use Rattle.eager_rules.proofs.KindLaws.{IsResult, zero_of}
 use Rattle.eager_rules.specs.Fits.{IsOfKind}
-use Rattle.eager_rules.specs.State.{State}
+use Rattle.eager_rules.specs.TypedStates.{Extends, Row, Holds, HoldAll, LiesIn, OfType, OfName, Given}
 use Rattle.eager_rules.specs.Types.{Ty, type_of}
 use Rattle.eager_rules.specs.Works.{Done, Made, Failed, Blocked, word_of, valued, changed, made_new, as_word}
 use Rattle.eager_rules.specs.declared.program.Oper.{Oper}
-
-abbrev pub Row : Type 0
-Row = Kind × ℕ
-
--- the words of a buffer are of its row
-abbrev pub Holds : Row → List ℤ → Type 0
-Holds row words = (length words ≡ row.1) × All (IsOfKind row.0) words
-
-abbrev pub HoldAll : List Row → List (List ℤ) → Type 0
-HoldAll = Each Holds
-
--- a buffer is one of this kind
-abbrev pub LiesIn : List Row → Kind → ℕ → Type 0
-LiesIn rows kind buffer = (count : ℕ) × (slice_get rows buffer ≡ Some (kind, count))
-
--- what is bound is of a type; a scalar may be an array without dimensions
-abbrev pub OfType : List Row → Ty → Bound → Type 0
-OfType rows t Unbound = ⊥
-OfType rows t (WordOf z) = (t.1 ≡ 0) × IsOfKind t.0 z
-OfType rows t (ArrayOf a) = LiesIn rows t.0 a.buffer
-
--- what a name stands for is of its type, if it stands for anything
-abbrev pub OfName : List Row → Ty → Bound → Type 0
-OfName rows t Unbound = Unit {0}
-OfName rows t (WordOf z) = OfType rows t (WordOf z)
-OfName rows t (ArrayOf a) = OfType rows t (ArrayOf a)
-
-pub record StateOf (rows : List Row) (types : List Ty) (s : State) : Type 0 where
-  pub buffers : HoldAll rows s.buffers
-  pub names : Each (OfName rows) types s.names
-
--- values are of types, as far as there are both
-abbrev pub Given : List Row → List Ty → List Bound → Type 0
-Given rows types [] = Unit {0}
-Given rows [] (v ∷ values) = Unit {0}
-Given rows (t ∷ types) (v ∷ values) = OfType rows t v × Given rows types values
 
 -- names have types, one by one; without a name nothing is asked
 abbrev pub Named : List Ty → List ℕ → List Ty → Type 0

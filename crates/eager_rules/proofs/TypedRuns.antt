@@ -7,12 +7,12 @@ use Rattle.std.specs.List.{flat_map, list_all}
 use Rattle.krn_base.specs.declared.kind.Kind.TheVariants.{Int64, Bool as Boolean}
 use Rattle.krn_base.specs.declared.place.Loc.{Loc}
 use Rattle.array_ops.specs.Elements.{Bound, Unbound, WordOf, ArrayOf}
-use Rattle.eager_rules.proofs.Each.{Extends, each_get, each_set, each_more, extends_refl, extends_trans}
+use Rattle.eager_rules.proofs.Each.{each_get, each_set, each_more, extends_refl, extends_trans}
 use Rattle.eager_rules.proofs.Each.{none_some, some_same}
 use Rattle.eager_rules.proofs.KindLaws.{truth_of}
 use Rattle.eager_rules.proofs.ListTests.{and_left, and_right}
 use Rattle.eager_rules.proofs.Trees.{Good, by_layers, fused}
-use Rattle.eager_rules.proofs.Typed.{Row, HoldAll, OfType, OfName, StateOf, Given, Named, Reads, DoneOf, later_name}
+use Rattle.eager_rules.proofs.Typed.{Named, Reads, DoneOf, later_name}
 use Rattle.eager_rules.proofs.Typed.{to_name}
 use Rattle.eager_rules.proofs.TypedWorks.{WorkOf, not_true, moved, extents_given, got, written, viewed, turned, made}
 use Rattle.eager_rules.proofs.TypedWorks.{computed, elementwise, joined, stored, same_one, same_all}
@@ -24,6 +24,7 @@ use Rattle.eager_rules.specs.Sound.{Head, has_type, one_type, given_types, array
 use Rattle.eager_rules.specs.Sound.{named_types, takes_values, call_fits, fits_step, fits, all_fit}
 use Rattle.eager_rules.specs.Sound.{reduction_fits}
 use Rattle.eager_rules.specs.State.{State, operand, is_bound, bind, with_buffers, truth_word}
+use Rattle.eager_rules.specs.TypedStates.{Extends, Row, HoldAll, OfType, OfName, StateOf, Given, EndOf, MeaningOf}
 use Rattle.eager_rules.specs.Types.{Ty, is_array, type_of, types_of, add_type, same_types}
 use Rattle.eager_rules.specs.Types.{word_type, map_type, reduce_type, pick_type, put_fits, store_fits, may_store}
 use Rattle.eager_rules.specs.Types.{is_truth}
@@ -35,17 +36,6 @@ use Rattle.eager_rules.specs.declared.program.Core.TheFolds.{map-Core, fold-roll
 use Rattle.eager_rules.specs.declared.program.Core.TheViews.{roll-Core}
 use Rattle.eager_rules.specs.declared.program.Oper.{Oper}
 use Rattle.eager_rules.specs.declared.program.Oper.TheVariants as oper
-
--- what a statement comes to
-abbrev pub EndOf : List Row → List Ty → List Ty → State × End → Type 0
-EndOf rows names rets (s, GoesOn) = (more : List Row) × Extends rows more × StateOf more names s
-EndOf rows names rets (s, Returned values) =
-    (more : List Row) × Extends rows more × HoldAll more s.buffers × Given more rets values
-EndOf rows names rets (s, Faulted fault at) = (more : List Row) × Extends rows more × HoldAll more s.buffers
-EndOf rows names rets (s, Stuck) = (more : List Row) × Extends rows more × HoldAll more s.buffers
-
-abbrev pub MeaningOf : List Ty → List Ty → Meaning State → Type 0
-MeaningOf names rets m = (rows : List Row) (s : State) → StateOf rows names s → EndOf rows names rets (m s)
 
 widened : (rows more : List Row) (names rets : List Ty) (q : State × End) → Extends rows more →
     EndOf more names rets q → EndOf rows names rets q

@@ -27,10 +27,11 @@ use Rattle.eager_rules.proofs.Each.{none_some, some_same, extends_refl}
 use Rattle.eager_rules.proofs.KindLaws.{IsResult, zero_of, one_of, all_one, all_two, bin_word, un_word, choice_word}
 use Rattle.eager_rules.proofs.KindLaws.{all_pairs, reduced_word}
 use Rattle.eager_rules.proofs.ListTests.{and_left, and_right}
-use Rattle.eager_rules.proofs.Typed.{Row, HoldAll, LiesIn, OfType, Given, DoneOf, words_in, word_in, operand_words}
+use Rattle.eager_rules.proofs.Typed.{DoneOf, words_in, word_in, operand_words}
 use Rattle.eager_rules.proofs.Typed.{scalar_word, held_word, held_words, gives_word}
 use Rattle.eager_rules.proofs.Typed.{gives_new, gives_nothing}
 use Rattle.eager_rules.specs.Fits.{IsOfKind}
+use Rattle.eager_rules.specs.TypedStates.{Row, HoldAll, LiesIn, OfType, Given}
 use Rattle.eager_rules.specs.Types.{Ty, same_kind, same_type, same_types, is_array, bin_kind, un_kind, select_kind}
 use Rattle.eager_rules.specs.Types.{with_rank, with_array_rank, word_type, map_type, reduce_type, reduce_kind}
 use Rattle.eager_rules.specs.Types.{may_store}
@@ -104,7 +105,7 @@ written t v at h k rows (x ∷ y ∷ index) buffers held given =
     (array_lies rows t x h given.0) (storable t.0 v.0 (word_of y) k (scalar_word rows v y given.1.0))
 
 -- a view lies in its array's buffer
-abbrev InBuffer : ℕ → Result ArrayRef Fault → Type 0
+abbrev pub InBuffer : ℕ → Result ArrayRef Fault → Type 0
 InBuffer n (Ok a) = n ≡ a.buffer
 InBuffer n (Err fault) = Unit {0}
 
@@ -130,7 +131,8 @@ if_in : (n : ℕ) (test : Bool) (r : Result ArrayRef Fault) (fault : Fault) → 
 if_in n true r fault h = h
 if_in n false r fault h = tt
 
-picked_in : (subs : List Subscript) (axis n : ℕ) (a : ArrayRef) → n ≡ a.buffer → InBuffer n (picked_from axis subs a)
+pub picked_in : (subs : List Subscript) (axis n : ℕ) (a : ArrayRef) → n ≡ a.buffer →
+    InBuffer n (picked_from axis subs a)
 picked_in [] axis n a h = h
 picked_in (s ∷ subs) axis n a h =
     if_in n _ _ _ (then_in n (subscripted axis s a) (picked_from (axis_behind axis s) subs)

@@ -1,6 +1,8 @@
+pub mod Assigned
 pub mod Blocks
 pub mod Eager
 pub mod Fits
+pub mod Holding
 pub mod Laws
 pub mod Outcome
 pub mod Running
@@ -10,4 +12,5 @@ pub mod Sound
 pub mod State
 pub mod Statements
 pub mod Types
+pub mod TypedStates
 pub mod Works

@@ -4,6 +4,7 @@ use Rattle.array_ops.specs.Elements.{Bound}
 use Rattle.array_ops.specs.Operands.{meaning_of}
 use Rattle.array_ops.specs.declared.operand.Operand.{Operand}
 use Rattle.eager_rules.specs.Blocks.{End, GoesOn, Returned, Faulted, Stuck}
+use Rattle.eager_rules.specs.Holding.{Held}
 use Rattle.eager_rules.specs.State.{State}
 use Rattle.eager_rules.specs.Works.{Done, Made, Failed, Blocked, numbers_from}
 use Rattle.eager_rules.specs.declared.state.State.{State as Running}
@@ -16,9 +17,12 @@ use Rattle.eager_rules.specs.declared.state.Worked.TheVariants as worked
 abbrev pub meanings : List Operand → List Bound
 meanings xs = map meaning_of xs
 
--- the state that the evaluator holds
+-- the state that the evaluator holds, with counts and without
+abbrev pub held_of : Running → Held
+held_of s = record { heap = s.heap; names = meanings s.names }
+
 abbrev pub state_of : Running → State
-state_of s = record { buffers = s.buffers; names = meanings s.names }
+state_of s = record { buffers = s.heap.buffers; names = meanings s.names }
 
 abbrev pub end_of : Ending → End
 end_of ending.GoesOn = GoesOn

@@ -3,15 +3,17 @@ ghost use Rattle.std.specs.Prelude.{◌≡◌, ℕ, IfOk, Some, true, replicate,
 ghost use Rattle.std.specs.List.{All, range_with_len};
 ghost use Rattle.array_ops.specs.Elements.{Unbound};
 ghost use Rattle.eager_rules.specs.Blocks.{for_each};
-ghost use Rattle.eager_rules.specs.Eager.{block, called, calls_at, done_of, entered, meaning, set_variable, step};
-ghost use Rattle.eager_rules.specs.Running.{done_by, end_of, meanings, numbers_of, state_of};
+ghost use Rattle.eager_rules.specs.Holding.{block_held, called_held, calls_held, done_held, entered_held};
+ghost use Rattle.eager_rules.specs.Holding.{meaning_held, release_all, set_held, step_held};
+ghost use Rattle.eager_rules.specs.Running.{done_by, end_of, held_of, meanings, numbers_of};
 ghost use Rattle.eager_rules.specs.Small.{all_small, bodies_small, is_small};
-ghost use Rattle.eager_rules.specs.State.{State as Reached};
 ghost use Rattle.eager_rules.specs.declared.program.Instance.{Instance as AnyInstance};
+ghost use Rattle.eager_rules.specs.declared.state.Heap.{Heap as AnyHeap};
 
-use crate::frame::{bind, bind_all, finish, is_ready, read, read_all, word};
+use crate::frame::{bind, bind_all, is_ready, read, read_all, settle, word};
+use crate::heap::{hold_all, release_all};
 use crate::program::{Core, Instance, Oper};
-use crate::state::{Ending, State, Worked};
+use crate::state::{Ending, Heap, State, Worked};
 use crate::statement;
 use crate::turns::{Turns, range_of};
 use array_ops::Operand;
@@ -30,8 +32,8 @@ pub fn run_block(
 ) -> Result<Ending, NoMemory>
     requires small { all_small body.now ≡ true }
     requires bodies { bodies_small instances.now ≡ true }
-    ensures { IfOk result (λ e. (state_of state.new, end_of e) ≡
-        block (calls_at instances.now depth) body.now (state_of state.old)) }
+    ensures { IfOk result (λ e. (held_of state.new, end_of e) ≡
+        block_held (calls_held instances.now depth) body.now (held_of state.old)) }
 {
     each_small(body);
     for core in body {
@@ -60,8 +62,8 @@ fn run(
 ) -> Result<Ending, NoMemory>
     requires small { is_small core.now ≡ true }
     requires bodies { bodies_small instances.now ≡ true }
-    ensures { IfOk result (λ e. (state_of state.new, end_of e) ≡
-        meaning (calls_at instances.now depth) core.now (state_of state.old)) }
+    ensures { IfOk result (λ e. (held_of state.new, end_of e) ≡
+        meaning_held (calls_held instances.now depth) core.now (held_of state.old)) }
 {
     match core {
         Core::Word { to, op, args, at } => statement::word(
@@ -178,9 +180,9 @@ fn run_loop(
 ) -> Result<Ending, NoMemory>
     requires small { all_small body.now ≡ true }
     requires bodies { bodies_small instances.now ≡ true }
-    ensures { IfOk result (λ e. (state_of state.new, end_of e) ≡
-        for_each (set_variable var) (block (calls_at instances.now depth) body.now) (numbers_of turns)
-        (state_of state.old)) }
+    ensures { IfOk result (λ e. (held_of state.new, end_of e) ≡
+        for_each (set_held var) (block_held (calls_held instances.now depth) body.now) (numbers_of turns)
+        (held_of state.old)) }
 {
     let most = turns.most;
     let mut left = turns;
@@ -188,7 +190,7 @@ fn run_loop(
         let Some(i) = left.take() else {
             return Ok(Ending::GoesOn);
         };
-        bind(state, var, Operand::Word(i));
+        bind(alloc, state, var, Operand::Word(i));
         match run_block(body, depth, instances, alloc, state)? {
             Ending::GoesOn => {}
             end => return Ok(end),
@@ -209,8 +211,8 @@ fn run_call(
     state: &mut State,
 ) -> Result<Ending, NoMemory>
     requires bodies { bodies_small instances.now ≡ true }
-    ensures { IfOk result (λ e. (state_of state.new, end_of e) ≡
-        step args.now to.now (calls_at instances.now depth instance) (state_of state.old)) }
+    ensures { IfOk result (λ e. (held_of state.new, end_of e) ≡
+        step_held args.now to.now (calls_held instances.now depth instance) (held_of state.old)) }
 {
     if !is_ready(state, args, to) {
         return Ok(Ending::Stuck);
@@ -222,9 +224,9 @@ fn run_call(
         alloc,
         instance,
         values.as_slice(),
-        &mut state.buffers,
+        &mut state.heap,
     )?;
-    Ok(finish(state, to, worked))
+    Ok(settle(alloc, state, to, worked))
 }
 
 /// A call of an instance.
@@ -236,11 +238,11 @@ fn call(
     alloc: Global,
     instance: u32,
     args: &[Operand],
-    buffers: &mut Seq<Seq<i64>>,
+    heap: &mut Heap,
 ) -> Result<Worked, NoMemory>
     requires bodies { bodies_small instances.now ≡ true }
-    ensures { IfOk result (λ w. done_by buffers.new w ≡
-        calls_at instances.now depth instance (meanings args.now) buffers.old) }
+    ensures { IfOk result (λ w. (done_by heap.new.buffers w, heap.new.counts) ≡
+        calls_held instances.now depth instance (meanings args.now) heap.old) }
 {
     if depth == 0 {
         return Ok(Worked::Blocked);
@@ -248,7 +250,7 @@ fn call(
     match instances.get(instance as usize) {
         Some(f) => {
             body_small(instances, instance as usize);
-            enter(depth - 1, instances, alloc, f, args, buffers)
+            enter(depth - 1, instances, alloc, f, args, heap)
         }
         None => Ok(Worked::Blocked),
     }
@@ -268,26 +270,39 @@ fn enter(
     alloc: Global,
     f: &Instance,
     args: &[Operand],
-    buffers: &mut Seq<Seq<i64>>,
+    heap: &mut Heap,
 ) -> Result<Worked, NoMemory>
     requires small { all_small f.now.body ≡ true }
     requires bodies { bodies_small instances.now ≡ true }
-    ensures { IfOk result (λ w. done_by buffers.new w ≡
-        called (calls_at instances.now depth) (Some f.now) (meanings args.now) buffers.old) }
+    ensures { IfOk result (λ w. (done_by heap.new.buffers w, heap.new.counts) ≡
+        called_held (calls_held instances.now depth) (Some f.now) (meanings args.now) heap.old) }
 {
-    let mut state = begin(alloc, f, args, mem::replace(buffers, Seq::new(alloc)))?;
+    let mut state = begin(alloc, f, args, mem::replace(heap, no_buffers(alloc)))?;
     let end = run_block(f.body.as_slice(), depth, instances, alloc, &mut state)?;
-    let State {
-        buffers: last,
-        names: _,
-    } = state;
-    *buffers = last;
+    *heap = left(alloc, state);
     Ok(worked_by(end))
+}
+
+/// No buffers. Takes no memory.
+fn no_buffers(alloc: Global) -> Heap {
+    Heap {
+        buffers: Seq::new(alloc),
+        counts: Seq::new(alloc),
+    }
+}
+
+/// The buffers when an instance has ended: its names give back what they stand for.
+fn left(alloc: Global, state: State) -> Heap
+    ensures { result ≡ release_all (meanings state.names) state.heap }
+{
+    let State { mut heap, names } = state;
+    release_all(alloc, &mut heap, names.as_slice());
+    heap
 }
 
 /// What a call comes to, by the end of the called body.
 fn worked_by(end: Ending) -> Worked
-    ensures { (s : Reached) → done_by s.buffers result ≡ done_of (s, end_of end) }
+    ensures { (heap : AnyHeap) → (done_by heap.buffers result, heap.counts) ≡ done_held heap (end_of end) }
 {
     match end {
         Ending::GoesOn => Worked::Nothing,
@@ -298,18 +313,14 @@ fn worked_by(end: Ending) -> Worked
 }
 
 /// The state in which an instance begins: its parameters are bound to the arguments.
-pub fn begin(
-    alloc: Global,
-    f: &Instance,
-    args: &[Operand],
-    buffers: Seq<Seq<i64>>,
-) -> Result<State, NoMemory>
-    ensures { IfOk result (λ s. state_of s ≡ entered f.now (meanings args.now) buffers) }
+pub fn begin(alloc: Global, f: &Instance, args: &[Operand], heap: Heap) -> Result<State, NoMemory>
+    ensures { IfOk result (λ s. held_of s ≡ entered_held f.now (meanings args.now) heap) }
 {
     let names = unbound(alloc, f.names.len())?;
-    let mut state = State { buffers, names };
+    let mut state = State { heap, names };
+    hold_all(&mut state.heap.counts, args)?;
     let params = numbers_below(alloc, f.params.len())?;
-    bind_all(&mut state, params.as_slice(), args);
+    bind_all(alloc, &mut state, params.as_slice(), args);
     Ok(state)
 }
 

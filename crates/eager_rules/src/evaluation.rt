@@ -1,11 +1,12 @@
-ghost use Rattle.std.specs.Prelude.{◌≡◌, ◌<◌, ℕ, IfOk, List, map, length, None, slice_get, take, true};
+ghost use Rattle.std.specs.Prelude.{◌≡◌, ◌<◌, ℕ, IfOk, List, map, length, None, replicate, slice_get, take, true};
 ghost use Rattle.std.specs.List.{zip};
 ghost use Rattle.krn_base.specs.declared.kind.Kind.TheVariants.{Int64};
 ghost use Rattle.array_ops.specs.Elements.{Unbound};
 ghost use Rattle.array_ops.specs.Operands.{meaning_of};
 ghost use Rattle.eager_rules.specs.Kept.{FitsInstance, IsKernel, KeepsBuffers};
 ghost use Rattle.eager_rules.specs.Outcome.{by_number, ended, instance_outcome, outcome_by, outcome_of, value_of};
-ghost use Rattle.eager_rules.specs.Running.{end_of, meanings, state_of};
+ghost use Rattle.eager_rules.specs.Holding.{run_held};
+ghost use Rattle.eager_rules.specs.Running.{end_of, held_of, meanings, state_of};
 ghost use Rattle.eager_rules.specs.Small.{all_small, bodies_small};
 ghost use Rattle.eager_rules.specs.Sound.{IsTyped};
 ghost use Rattle.eager_rules.specs.State.{bound_to};
@@ -15,7 +16,7 @@ use crate::call::{Arg, Call};
 use crate::eval::{begin, body_small, run_block};
 use crate::outcome::{Outcome, Value};
 use crate::program::{Instance, Program};
-use crate::state::{Ending, State};
+use crate::state::{Ending, Heap, State};
 use array_ops::{Operand, elements};
 use krn_base::{Kind, NoMemory, Seq};
 use std::alloc::Global;
@@ -127,7 +128,8 @@ fn outcome(
 ) -> Result<Outcome, NoMemory>
     ensures { IfOk result (λ o. o ≡ ended rets.now count (state_of state, end_of end)) }
 {
-    let State { buffers, names: _ } = state;
+    let State { heap, names: _ } = state;
+    let Heap { buffers, counts: _ } = heap;
     let (ret, fault) = match end {
         Ending::GoesOn | Ending::Stuck => (Seq::new(alloc), None),
         Ending::Returned(operands) => {
@@ -143,6 +145,45 @@ fn outcome(
     })
 }
 
+/// A count of 1 for each buffer.
+fn ones(alloc: Global, count: usize) -> Result<Seq<u32>, NoMemory>
+    ensures { IfOk result (λ counts. counts ≡ replicate count 1) }
+{
+    let mut counts = Seq::from_vec(Vec::with_capacity(alloc, count)?);
+    for _buffer in 0..count {
+        counts.push(1)?;
+    }
+    Ok(counts)
+}
+
+/// Runs an instance on arguments and buffers, each of which is held to the end.
+fn run_instance(
+    alloc: Global,
+    instances: &[Instance],
+    f: &Instance,
+    args: &[Operand],
+    buffers: Seq<Seq<i64>>,
+) -> Result<(State, Ending), NoMemory>
+    requires small { all_small f.now.body ≡ true }
+    requires bodies { bodies_small instances.now ≡ true }
+    ensures { IfOk result (λ q. (held_of q.0, end_of q.1) ≡
+        run_held instances.now (length instances.now) f.now (meanings args.now) buffers) }
+{
+    if instances.len() > u32::MAX as usize {
+        return Err(NoMemory);
+    }
+    let counts = ones(alloc, buffers.len().max(1))?;
+    let mut state = begin(alloc, f, args, Heap { buffers, counts })?;
+    let end = run_block(
+        f.body.as_slice(),
+        instances.len() as u32,
+        instances,
+        alloc,
+        &mut state,
+    )?;
+    Ok((state, end))
+}
+
 /// Evaluates an instance on a call, one whole-array operation after another.
 fn evaluate(
     alloc: Global,
@@ -154,19 +195,9 @@ fn evaluate(
     requires bodies { bodies_small instances.now ≡ true }
     ensures { IfOk result (λ o. o ≡ instance_outcome instances.now (length instances.now) f.now call.now) }
 {
-    if instances.len() > u32::MAX as usize {
-        return Err(NoMemory);
-    }
     let args = operands_of(alloc, call.args.as_slice())?;
     let buffers = words_of(alloc, call.buffers.as_slice())?;
-    let mut state = begin(alloc, f, args.as_slice(), buffers)?;
-    let end = run_block(
-        f.body.as_slice(),
-        instances.len() as u32,
-        instances,
-        alloc,
-        &mut state,
-    )?;
+    let (state, end) = run_instance(alloc, instances, f, args.as_slice(), buffers)?;
     outcome(alloc, f.rets.as_slice(), call.buffers.len(), state, end)
 }
 
@@ -184,7 +215,9 @@ fn untouched(alloc: Global, call: &Call) -> Result<Outcome, NoMemory>
 /// The outcome of a call of the kernel with this number: what evaluating the program's core gives, one whole-array
 /// operation after another. The exponents of its powers are at most 62.
 ///
-/// Takes time linear in the statements that run and in the elements that they read and write.
+/// Takes time linear in the statements that run and in the elements that they read and write. It holds the words of one
+/// new buffer for each array that is made while a name of a running instance stands for it, or a value on its way to
+/// one, and 28 bytes for each array that was made; of a call without buffers it holds the first one to the end.
 pub fn eager(
     alloc: Global,
     program: &Program,

@@ -1,15 +1,17 @@
 // Reading operands, and binding names.
-ghost use Rattle.std.specs.Prelude.{◌≡◌, IfOk, length, map, nat_lt, slice_index_or};
+ghost use Rattle.std.specs.Prelude.{◌≡◌, ℤ, List, IfOk, OnOk, length, map, nat_lt, slice_index_or, slice_set};
 ghost use Rattle.std.specs.List.{list_all};
 ghost use Rattle.array_ops.specs.Elements.{Bound};
 ghost use Rattle.array_ops.specs.Operands.{meaning_of};
 ghost use Rattle.eager_rules.specs.Blocks.{Faulted};
-ghost use Rattle.eager_rules.specs.Eager.{bind_all, finish, ready};
-ghost use Rattle.eager_rules.specs.Running.{done_by, end_of, meanings, state_of};
-ghost use Rattle.eager_rules.specs.State.{bind, is_bound, operand};
+ghost use Rattle.eager_rules.specs.Eager.{ready};
+ghost use Rattle.eager_rules.specs.Holding.{bind_all_held, bind_held, finish_held, held_done};
+ghost use Rattle.eager_rules.specs.Running.{done_by, end_of, held_of, meanings, state_of};
+ghost use Rattle.eager_rules.specs.State.{is_bound, operand};
 ghost use Rattle.array_ops.specs.Arrays.{array_of};
 ghost use Rattle.eager_rules.specs.Works.{array_in, no_array, word_of};
 
+use crate::heap::{hold, hold_all, release};
 use crate::program::Oper;
 use crate::state::{Ending, State, Worked};
 use array_ops::Operand;
@@ -134,38 +136,82 @@ pub fn words(alloc: Global, values: &[Operand]) -> Result<Seq<i64>, NoMemory>
     Ok(zs)
 }
 
-/// Binds a name to a value; a number that is no name's is left.
-pub fn bind(state: &mut State, name: u32, value: Operand)
-    ensures { state_of state.new ≡ bind name (meaning_of value) (state_of state.old) }
+/// What a name stood for that now stands for a value; the value itself where there is no such name.
+fn replaced(names: &mut Seq<Operand>, name: u32, value: Operand) -> Operand
+    ensures names { meanings names.new ≡ slice_set (meanings names.old) name (meaning_of value) }
+    ensures old { meaning_of result ≡ slice_index_or (meanings names.old) name (meaning_of value) }
 {
-    if (name as usize) < state.names.len() {
-        state.names.set(name as usize, value);
+    let number = name as usize;
+    if number >= names.len() {
+        return value;
     }
+    let old = names.as_slice()[number];
+    names.set(number, value);
+    old
 }
 
-/// Binds names to values, one after another, as far as there are both.
-pub fn bind_all(state: &mut State, to: &[u32], values: &[Operand])
-    ensures { state_of state.new ≡ bind_all to.now (meanings values.now) (state_of state.old) }
+/// Binds a name to a value that is held, and gives back what it stood for; a number that is no name's gives the value
+/// back.
+pub fn bind(alloc: Global, state: &mut State, name: u32, value: Operand)
+    ensures { held_of state.new ≡ bind_held name (meaning_of value) (held_of state.old) }
 {
-    let count = to.len().min(values.len());
-    for i in 0..count {
-        bind(state, to[i], values[i]);
+    let old = replaced(&mut state.names, name, value);
+    release(alloc, &mut state.heap, &old);
+}
+
+/// Binds names to values that are held, one after another, as far as there are both, and gives back the values that are
+/// left.
+pub fn bind_all(alloc: Global, state: &mut State, to: &[u32], values: &[Operand])
+    ensures { held_of state.new ≡ bind_all_held to.now (meanings values.now) (held_of state.old) }
+{
+    for i in 0..values.len() {
+        if i < to.len() {
+            bind(alloc, state, to[i], values[i]);
+        } else {
+            release(alloc, &mut state.heap, &values[i]);
+        }
     }
 }
 
 /// The end of a statement, by what its work came to in the buffers that now stand.
-pub fn finish(state: &mut State, to: &[u32], worked: Worked) -> Ending
-    ensures { (state_of state.new, end_of result) ≡
-        finish to.now (done_by state.old.buffers worked) (state_of state.old) }
+pub fn finish(
+    alloc: Global,
+    state: &mut State,
+    to: &[u32],
+    worked: Worked,
+) -> Result<Ending, NoMemory>
+    ensures { IfOk result (λ e. (held_of state.new, end_of e) ≡ finish_held to.now
+        (held_done (done_by state.old.heap.buffers worked) state.old.heap.counts) (held_of state.old)) }
+{
+    hold_worked(&mut state.heap.counts, &worked)?;
+    Ok(settle(alloc, state, to, worked))
+}
+
+/// The values that work gave are held.
+fn hold_worked(counts: &mut Seq<u32>, worked: &Worked) -> Result<(), NoMemory>
+    ensures { (buffers : List (List ℤ)) → OnOk result
+        ((done_by buffers worked.now, counts.new) ≡ held_done (done_by buffers worked.now) counts.old) }
+{
+    match worked {
+        Worked::Value(value) => hold(counts, value),
+        Worked::Values(values) => hold_all(counts, values.as_slice()),
+        Worked::Nothing | Worked::Failed(_, _) | Worked::Blocked => Ok(()),
+    }
+}
+
+/// The end of a statement, by what its work came to, where the values that it gave are held.
+pub fn settle(alloc: Global, state: &mut State, to: &[u32], worked: Worked) -> Ending
+    ensures { (held_of state.new, end_of result) ≡ finish_held to.now
+        (done_by state.old.heap.buffers worked, state.old.heap.counts) (held_of state.old) }
 {
     match worked {
         Worked::Value(value) => {
-            bind_all(state, to, &[value]);
+            bind_all(alloc, state, to, &[value]);
             Ending::GoesOn
         }
         Worked::Nothing => Ending::GoesOn,
         Worked::Values(values) => {
-            bind_all(state, to, values.as_slice());
+            bind_all(alloc, state, to, values.as_slice());
             Ending::GoesOn
         }
         Worked::Failed(fault, at) => Ending::Faulted(fault, at),

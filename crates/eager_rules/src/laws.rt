@@ -6,9 +6,11 @@ ghost use Rattle.eager_rules.specs.Laws.{IsDeepEnough, IsNeverStuck, KeepsOthers
 ghost use Rattle.eager_rules.specs.Laws.{ReadsWhatWasStored, may_change};
 ghost use Rattle.eager_rules.specs.declared.program.Core.TheOpen as c;
 ghost use Rattle.eager_rules.specs.declared.program.Core.{Core as AnyCore};
+ghost use Rattle.eager_rules.specs.declared.program.Program.{Program as AnyProgram};
 ghost use Rattle.view_places.specs.View.{places};
 ghost use Rattle.eager_rules.specs.Small.{bodies_small};
 ghost use Rattle.eager_rules.specs.Sound.{IsSound, IsTyped};
+ghost use Rattle.eager_rules.specs.TypedStates.{BeginsTyped, KeepsTypes, LeavesFilled};
 
 use crate::program::Program;
 use krn_base::Seq;
@@ -18,6 +20,15 @@ use view_places::View;
 pub fn typed_has_small_powers(program: &Program)
     requires typed { IsTyped program.now }
     ensures small { bodies_small program.now.instances ≡ true }
+{}
+
+/// Each statement of a well-typed program keeps the kinds of what names stand for and of the words of buffers, and a
+/// call that fits begins so. It leaves as many words in each of its buffers, of the buffer's kind.
+pub fn typed_runs_keep_types(program: &Program)
+    requires typed { IsTyped program.now }
+    ensures keeps { KeepsTypes program.now }
+    ensures begins { BeginsTyped program.now }
+    ensures filled { LeavesFilled program.now }
 {}
 
 /// A store and then a read of the same places gives the words that were stored, and each other word is as it was.
@@ -52,4 +63,11 @@ pub fn sound_is_never_stuck(program: &Program)
 /// A block ends in the same way, with the same buffers, whatever the names that it doesn't read stand for.
 pub fn unread_names_change_nothing()
     ensures { (calls : Calls) (body : List AnyCore) → ReadsNoOthers calls body }
+{}
+
+/// What `sound_is_never_stuck` and `typed_runs_keep_types` say of one program, of all of them.
+pub fn laws_of_all_programs()
+    ensures ends { (program : AnyProgram) → IsSound program → IsNeverStuck program }
+    ensures keeps { (program : AnyProgram) → IsTyped program → KeepsTypes program }
+    ensures begins { (program : AnyProgram) → IsTyped program → BeginsTyped program }
 {}

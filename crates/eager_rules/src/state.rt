@@ -1,10 +1,18 @@
 use array_ops::Operand;
 use krn_base::{Fault, Loc, Seq};
 
+/// The buffers, and for each how many values refer to it: names of running instances, arguments and returned values on
+/// their way, and one more for each buffer of the call. A buffer to which none refers any more holds no words.
+#[derive(Debug, Drop)]
+pub struct Heap {
+    pub buffers: Seq<Seq<i64>>,
+    pub counts: Seq<u32>,
+}
+
 /// The state of an evaluation: the buffers, and what each name of the running instance stands for.
 #[derive(Debug, Drop)]
 pub struct State {
-    pub buffers: Seq<Seq<i64>>,
+    pub heap: Heap,
     pub names: Seq<Operand>,
 }
 

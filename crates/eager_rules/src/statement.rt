@@ -1,10 +1,10 @@
 // One function for each kind of statement without blocks. The clause of each is its line of the definition.
 ghost use Rattle.std.specs.Prelude.{◌≡◌, ◌∷◌, [], ◌++◌, IfOk, OnOk, map, true};
 ghost use Rattle.std.specs.List.{flat_map};
-ghost use Rattle.eager_rules.specs.Blocks.{Returned};
-ghost use Rattle.eager_rules.specs.Eager.{ready, step, where_ready};
+ghost use Rattle.eager_rules.specs.Eager.{ready};
+ghost use Rattle.eager_rules.specs.Holding.{lifted, return_held, step_held, where_held};
 ghost use Rattle.eager_rules.specs.State.{operand};
-ghost use Rattle.eager_rules.specs.Running.{end_of, state_of};
+ghost use Rattle.eager_rules.specs.Running.{end_of, held_of, state_of};
 ghost use Rattle.eager_rules.specs.Small.{is_small_map, is_small_word};
 ghost use Rattle.eager_rules.specs.Works.{extent_work, flip_work, fresh_work, get_work, given_part, map_work};
 ghost use Rattle.eager_rules.specs.Works.{move_work, pick_work, put_work};
@@ -13,6 +13,7 @@ ghost use Rattle.eager_rules.specs.declared.program.Oper.TheVariants.{Name};
 ghost use Rattle.eager_rules.specs.declared.program.WordOp.TheVariants.{Bin};
 
 use crate::frame::{finish, is_ready, read, read_all};
+use crate::heap::hold_all;
 use crate::program::{CoreSub, Oper, WordOp};
 use crate::state::{Ending, State};
 use crate::{array_work, fresh_work, map_work, subscripts, work};
@@ -30,25 +31,33 @@ pub fn word(
     state: &mut State,
 ) -> Result<Ending, NoMemory>
     requires { is_small_word op ≡ true }
-    ensures { IfOk result (λ e. (state_of state.new, end_of e) ≡
-        step args.now (to ∷ []) (word_work op at) (state_of state.old)) }
+    ensures { IfOk result (λ e. (held_of state.new, end_of e) ≡
+        step_held args.now (to ∷ []) (lifted (word_work op at)) (held_of state.old)) }
 {
     match (op, args) {
-        (WordOp::Bin(op), [a, b]) => Ok(word_of_two(to, op, *a, *b, at, state)),
+        (WordOp::Bin(op), [a, b]) => word_of_two(alloc, to, op, *a, *b, at, state),
         _ => word_of_all(alloc, to, op, args, at, state),
     }
 }
 
 /// A scalar operation on two words. It makes no list.
-fn word_of_two(to: u32, op: BinOp, a: Oper, b: Oper, at: Loc, state: &mut State) -> Ending
-    ensures { (state_of state.new, end_of result) ≡
-        step (a ∷ b ∷ []) (to ∷ []) (word_work (Bin op) at) (state_of state.old) }
+fn word_of_two(
+    alloc: Global,
+    to: u32,
+    op: BinOp,
+    a: Oper,
+    b: Oper,
+    at: Loc,
+    state: &mut State,
+) -> Result<Ending, NoMemory>
+    ensures { IfOk result (λ e. (held_of state.new, end_of e) ≡
+        step_held (a ∷ b ∷ []) (to ∷ []) (lifted (word_work (Bin op) at)) (held_of state.old)) }
 {
     if !is_ready(state, &[a, b], &[to]) {
-        return Ending::Stuck;
+        return Ok(Ending::Stuck);
     }
     let worked = work::two_words(op, at, &read(state, &a), &read(state, &b));
-    finish(state, &[to], worked)
+    finish(alloc, state, &[to], worked)
 }
 
 /// A scalar operation on a list of words, or a move.
@@ -61,15 +70,15 @@ fn word_of_all(
     state: &mut State,
 ) -> Result<Ending, NoMemory>
     requires { is_small_word op ≡ true }
-    ensures { IfOk result (λ e. (state_of state.new, end_of e) ≡
-        step args.now (to ∷ []) (word_work op at) (state_of state.old)) }
+    ensures { IfOk result (λ e. (held_of state.new, end_of e) ≡
+        step_held args.now (to ∷ []) (lifted (word_work op at)) (held_of state.old)) }
 {
     if !is_ready(state, args, &[to]) {
         return Ok(Ending::Stuck);
     }
     let values = read_all(alloc, state, args)?;
     let worked = work::word_op(alloc, op, at, values.as_slice())?;
-    Ok(finish(state, &[to], worked))
+    finish(alloc, state, &[to], worked)
 }
 
 /// Puts operands behind others.
@@ -83,7 +92,7 @@ fn push_all(opers: &mut Seq<Oper>, others: &[Oper]) -> Result<(), NoMemory>
 }
 
 /// The array of a statement as the operand before others.
-fn with_array(alloc: Global, of: u32, others: &[Oper]) -> Result<Seq<Oper>, NoMemory>
+pub fn with_array(alloc: Global, of: u32, others: &[Oper]) -> Result<Seq<Oper>, NoMemory>
     ensures { IfOk result (λ opers. opers ≡ Name of ∷ others.now) }
 {
     let mut opers = Seq::new(alloc);
@@ -100,8 +109,8 @@ pub fn extent(
     state: &mut State,
     alloc: Global,
 ) -> Result<Ending, NoMemory>
-    ensures { IfOk result (λ e. (state_of state.new, end_of e) ≡
-        step (Name of ∷ []) (to ∷ []) (extent_work axis) (state_of state.old)) }
+    ensures { IfOk result (λ e. (held_of state.new, end_of e) ≡
+        step_held (Name of ∷ []) (to ∷ []) (lifted (extent_work axis)) (held_of state.old)) }
 {
     let reads = [Oper::Name(of)];
     if !is_ready(state, &reads, &[to]) {
@@ -109,7 +118,7 @@ pub fn extent(
     }
     let values = read_all(alloc, state, &reads)?;
     let worked = work::extent(axis, values.as_slice());
-    Ok(finish(state, &[to], worked))
+    finish(alloc, state, &[to], worked)
 }
 
 /// One element read.
@@ -121,31 +130,38 @@ pub fn get(
     at: Loc,
     state: &mut State,
 ) -> Result<Ending, NoMemory>
-    ensures { IfOk result (λ e. (state_of state.new, end_of e) ≡
-        step (Name of ∷ index.now) (to ∷ []) (get_work at) (state_of state.old)) }
+    ensures { IfOk result (λ e. (held_of state.new, end_of e) ≡
+        step_held (Name of ∷ index.now) (to ∷ []) (lifted (get_work at)) (held_of state.old)) }
 {
     match index {
-        [i] => Ok(get_by_one(to, of, *i, at, state)),
+        [i] => get_by_one(alloc, to, of, *i, at, state),
         _ => get_by_all(alloc, to, of, index, at, state),
     }
 }
 
 /// One element read by one subscript. It makes no list.
-fn get_by_one(to: u32, of: u32, i: Oper, at: Loc, state: &mut State) -> Ending
-    ensures { (state_of state.new, end_of result) ≡
-        step (Name of ∷ i ∷ []) (to ∷ []) (get_work at) (state_of state.old) }
+fn get_by_one(
+    alloc: Global,
+    to: u32,
+    of: u32,
+    i: Oper,
+    at: Loc,
+    state: &mut State,
+) -> Result<Ending, NoMemory>
+    ensures { IfOk result (λ e. (held_of state.new, end_of e) ≡
+        step_held (Name of ∷ i ∷ []) (to ∷ []) (lifted (get_work at)) (held_of state.old)) }
 {
     let reads = [Oper::Name(of), i];
     if !is_ready(state, &reads, &[to]) {
-        return Ending::Stuck;
+        return Ok(Ending::Stuck);
     }
     let worked = array_work::get_one(
         at,
         &read(state, &Oper::Name(of)),
         &read(state, &i),
-        state.buffers.as_slice(),
+        state.heap.buffers.as_slice(),
     );
-    finish(state, &[to], worked)
+    finish(alloc, state, &[to], worked)
 }
 
 /// One element read by any number of subscripts.
@@ -157,20 +173,25 @@ fn get_by_all(
     at: Loc,
     state: &mut State,
 ) -> Result<Ending, NoMemory>
-    ensures { IfOk result (λ e. (state_of state.new, end_of e) ≡
-        step (Name of ∷ index.now) (to ∷ []) (get_work at) (state_of state.old)) }
+    ensures { IfOk result (λ e. (held_of state.new, end_of e) ≡
+        step_held (Name of ∷ index.now) (to ∷ []) (lifted (get_work at)) (held_of state.old)) }
 {
     let reads = with_array(alloc, of, index)?;
     if !is_ready(state, reads.as_slice(), &[to]) {
         return Ok(Ending::Stuck);
     }
     let values = read_all(alloc, state, reads.as_slice())?;
-    let worked = array_work::get(alloc, at, values.as_slice(), state.buffers.as_slice())?;
-    Ok(finish(state, &[to], worked))
+    let worked = array_work::get(alloc, at, values.as_slice(), state.heap.buffers.as_slice())?;
+    finish(alloc, state, &[to], worked)
 }
 
 /// An element's array, its word and its subscripts as operands.
-fn with_value(alloc: Global, of: u32, value: Oper, index: &[Oper]) -> Result<Seq<Oper>, NoMemory>
+pub fn with_value(
+    alloc: Global,
+    of: u32,
+    value: Oper,
+    index: &[Oper],
+) -> Result<Seq<Oper>, NoMemory>
     ensures { IfOk result (λ opers. opers ≡ Name of ∷ value ∷ index.now) }
 {
     let mut opers = Seq::new(alloc);
@@ -189,20 +210,20 @@ pub fn put(
     at: Loc,
     state: &mut State,
 ) -> Result<Ending, NoMemory>
-    ensures { IfOk result (λ e. (state_of state.new, end_of e) ≡
-        step (Name of ∷ value ∷ index.now) [] (put_work at) (state_of state.old)) }
+    ensures { IfOk result (λ e. (held_of state.new, end_of e) ≡
+        step_held (Name of ∷ value ∷ index.now) [] (lifted (put_work at)) (held_of state.old)) }
 {
     let reads = with_value(alloc, of, value, index)?;
     if !is_ready(state, reads.as_slice(), &[]) {
         return Ok(Ending::Stuck);
     }
     let values = read_all(alloc, state, reads.as_slice())?;
-    let worked = array_work::put(alloc, at, values.as_slice(), &mut state.buffers)?;
-    Ok(finish(state, &[], worked))
+    let worked = array_work::put(alloc, at, values.as_slice(), &mut state.heap.buffers)?;
+    finish(alloc, state, &[], worked)
 }
 
 /// The operands of subscripts behind their array.
-fn with_subscripts(alloc: Global, of: u32, subs: &[CoreSub]) -> Result<Seq<Oper>, NoMemory>
+pub fn with_subscripts(alloc: Global, of: u32, subs: &[CoreSub]) -> Result<Seq<Oper>, NoMemory>
     ensures { IfOk result (λ opers. opers ≡ Name of ∷ flat_map sub_operands subs.now) }
 {
     let mut opers = Seq::new(alloc);
@@ -239,8 +260,9 @@ pub fn pick(
     at: Loc,
     state: &mut State,
 ) -> Result<Ending, NoMemory>
-    ensures { IfOk result (λ e. (state_of state.new, end_of e) ≡
-        step (Name of ∷ flat_map sub_operands subs.now) (to ∷ []) (pick_work subs.now at) (state_of state.old)) }
+    ensures { IfOk result (λ e. (held_of state.new, end_of e) ≡
+        step_held (Name of ∷ flat_map sub_operands subs.now) (to ∷ []) (lifted (pick_work subs.now at))
+        (held_of state.old)) }
 {
     let reads = with_subscripts(alloc, of, subs)?;
     if !is_ready(state, reads.as_slice(), &[to]) {
@@ -248,13 +270,13 @@ pub fn pick(
     }
     let values = read_all(alloc, state, reads.as_slice())?;
     let worked = subscripts::picked(alloc, subs, at, values.as_slice())?;
-    Ok(finish(state, &[to], worked))
+    finish(alloc, state, &[to], worked)
 }
 
 /// A view with the dimensions reversed.
 pub fn flip(alloc: Global, to: u32, of: u32, state: &mut State) -> Result<Ending, NoMemory>
-    ensures { IfOk result (λ e. (state_of state.new, end_of e) ≡
-        step (Name of ∷ []) (to ∷ []) flip_work (state_of state.old)) }
+    ensures { IfOk result (λ e. (held_of state.new, end_of e) ≡
+        step_held (Name of ∷ []) (to ∷ []) (lifted flip_work) (held_of state.old)) }
 {
     let reads = [Oper::Name(of)];
     if !is_ready(state, &reads, &[to]) {
@@ -262,13 +284,13 @@ pub fn flip(alloc: Global, to: u32, of: u32, state: &mut State) -> Result<Ending
     }
     let values = read_all(alloc, state, &reads)?;
     let worked = array_work::flipped(values.as_slice());
-    Ok(finish(state, &[to], worked))
+    finish(alloc, state, &[to], worked)
 }
 
 /// The same array under another name.
 pub fn alias(alloc: Global, to: u32, of: u32, state: &mut State) -> Result<Ending, NoMemory>
-    ensures { IfOk result (λ e. (state_of state.new, end_of e) ≡
-        step (Name of ∷ []) (to ∷ []) move_work (state_of state.old)) }
+    ensures { IfOk result (λ e. (held_of state.new, end_of e) ≡
+        step_held (Name of ∷ []) (to ∷ []) (lifted move_work) (held_of state.old)) }
 {
     let reads = [Oper::Name(of)];
     if !is_ready(state, &reads, &[to]) {
@@ -276,7 +298,7 @@ pub fn alias(alloc: Global, to: u32, of: u32, state: &mut State) -> Result<Endin
     }
     let values = read_all(alloc, state, &reads)?;
     let worked = work::moved(values.as_slice());
-    Ok(finish(state, &[to], worked))
+    finish(alloc, state, &[to], worked)
 }
 
 /// A new array by its dimensions.
@@ -288,15 +310,21 @@ pub fn fresh(
     at: Loc,
     state: &mut State,
 ) -> Result<Ending, NoMemory>
-    ensures { IfOk result (λ e. (state_of state.new, end_of e) ≡
-        step dims.now (to ∷ []) (fresh_work filling at) (state_of state.old)) }
+    ensures { IfOk result (λ e. (held_of state.new, end_of e) ≡
+        step_held dims.now (to ∷ []) (lifted (fresh_work filling at)) (held_of state.old)) }
 {
     if !is_ready(state, dims, &[to]) {
         return Ok(Ending::Stuck);
     }
     let values = read_all(alloc, state, dims)?;
-    let worked = fresh_work::fresh(alloc, filling, at, values.as_slice(), &mut state.buffers)?;
-    Ok(finish(state, &[to], worked))
+    let worked = fresh_work::fresh(
+        alloc,
+        filling,
+        at,
+        values.as_slice(),
+        &mut state.heap.buffers,
+    )?;
+    finish(alloc, state, &[to], worked)
 }
 
 /// An element operation into a new array.
@@ -309,15 +337,15 @@ pub fn map(
     state: &mut State,
 ) -> Result<Ending, NoMemory>
     requires { is_small_map op ≡ true }
-    ensures { IfOk result (λ e. (state_of state.new, end_of e) ≡
-        step args.now (to ∷ []) (map_work op at) (state_of state.old)) }
+    ensures { IfOk result (λ e. (held_of state.new, end_of e) ≡
+        step_held args.now (to ∷ []) (lifted (map_work op at)) (held_of state.old)) }
 {
     if !is_ready(state, args, &[to]) {
         return Ok(Ending::Stuck);
     }
     let values = read_all(alloc, state, args)?;
-    let worked = map_work::map(alloc, op, at, values.as_slice(), &mut state.buffers)?;
-    Ok(finish(state, &[to], worked))
+    let worked = map_work::map(alloc, op, at, values.as_slice(), &mut state.heap.buffers)?;
+    finish(alloc, state, &[to], worked)
 }
 
 /// A reduction of an array to a scalar.
@@ -329,16 +357,22 @@ pub fn reduce(
     at: Loc,
     state: &mut State,
 ) -> Result<Ending, NoMemory>
-    ensures { IfOk result (λ e. (state_of state.new, end_of e) ≡
-        step (Name of ∷ []) (to ∷ []) (reduce_work op at) (state_of state.old)) }
+    ensures { IfOk result (λ e. (held_of state.new, end_of e) ≡
+        step_held (Name of ∷ []) (to ∷ []) (lifted (reduce_work op at)) (held_of state.old)) }
 {
     let reads = [Oper::Name(of)];
     if !is_ready(state, &reads, &[to]) {
         return Ok(Ending::Stuck);
     }
     let values = read_all(alloc, state, &reads)?;
-    let worked = map_work::reduce(alloc, op, at, values.as_slice(), state.buffers.as_slice())?;
-    Ok(finish(state, &[to], worked))
+    let worked = map_work::reduce(
+        alloc,
+        op,
+        at,
+        values.as_slice(),
+        state.heap.buffers.as_slice(),
+    )?;
+    finish(alloc, state, &[to], worked)
 }
 
 /// An array store.
@@ -349,26 +383,28 @@ pub fn store(
     at: Loc,
     state: &mut State,
 ) -> Result<Ending, NoMemory>
-    ensures { IfOk result (λ e. (state_of state.new, end_of e) ≡
-        step (Name of ∷ value ∷ []) [] (store_work at) (state_of state.old)) }
+    ensures { IfOk result (λ e. (held_of state.new, end_of e) ≡
+        step_held (Name of ∷ value ∷ []) [] (lifted (store_work at)) (held_of state.old)) }
 {
     let reads = [Oper::Name(of), value];
     if !is_ready(state, &reads, &[]) {
         return Ok(Ending::Stuck);
     }
     let values = read_all(alloc, state, &reads)?;
-    let worked = map_work::store(alloc, at, values.as_slice(), &mut state.buffers)?;
-    Ok(finish(state, &[], worked))
+    let worked = map_work::store(alloc, at, values.as_slice(), &mut state.heap.buffers)?;
+    finish(alloc, state, &[], worked)
 }
 
 /// The values that an instance returns.
-pub fn returned(alloc: Global, values: &[Oper], state: &State) -> Result<Ending, NoMemory>
-    ensures { IfOk result (λ e. (state_of state.now, end_of e) ≡
-        where_ready (ready (state_of state.now) values.now [])
-        (state_of state.now, Returned (map (operand (state_of state.now)) values.now)) (state_of state.now)) }
+pub fn returned(alloc: Global, values: &[Oper], state: &mut State) -> Result<Ending, NoMemory>
+    ensures { IfOk result (λ e. (held_of state.new, end_of e) ≡
+        where_held (ready (state_of state.old) values.now [])
+        (return_held (map (operand (state_of state.old)) values.now) (held_of state.old)) (held_of state.old)) }
 {
     if !is_ready(state, values, &[]) {
         return Ok(Ending::Stuck);
     }
-    Ok(Ending::Returned(read_all(alloc, state, values)?))
+    let values = read_all(alloc, state, values)?;
+    hold_all(&mut state.heap.counts, values.as_slice())?;
+    Ok(Ending::Returned(values))
 }

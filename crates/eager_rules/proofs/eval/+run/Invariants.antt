@@ -2,24 +2,24 @@ use Rattle.std.proofs.Common.{◌≡◌, ◌+◌, ◌*◌, ◌≤◌, ℕ, drop,
 use denote.Param.Weighed.{most}
 use Rattle.eager_rules.specs.declared.program.Core.{size-Core}
 use Rattle.eager_rules.specs.Blocks.{for_each}
-use Rattle.eager_rules.specs.Eager.{block, calls_at, set_variable}
-use Rattle.eager_rules.specs.Running.{numbers_of, state_of}
+use Rattle.eager_rules.specs.Holding.{block_held, calls_held, set_held}
+use Rattle.eager_rules.specs.Running.{held_of, numbers_of}
 use Rattle.eager_rules.specs.declared.program.Instance.{Instance}
 use Rattle.eager_rules.proofs.eval.+run.Given as goal
 
 -- what is left of the block does from here what the block does from the start
 abbrev pub invariant-run_block-loop-core : goal.invariant-run_block-loop-core
 invariant-run_block-loop-core l =
-    block (calls_at l.instances l.depth) (drop l.core-index l.body) (state_of l.state) ≡
-    block (calls_at l.instances l.depth) l.body (state_of l.fn.state)
+    block_held (calls_held l.instances l.depth) (drop l.core-index l.body) (held_of l.state) ≡
+    block_held (calls_held l.instances l.depth) l.body (held_of l.fn.state)
 
 -- the numbers that are left do from here what all of them do from the start, and there are no more than turns
 abbrev pub invariant-run_loop-loop-turn : goal.invariant-run_loop-loop-turn
 invariant-run_loop-loop-turn l =
-    (for_each (set_variable l.var) (block (calls_at l.instances l.depth) l.body) (numbers_of l.left)
-    (state_of l.state) ≡
-    for_each (set_variable l.var) (block (calls_at l.instances l.depth) l.body) (numbers_of l.fn.turns)
-    (state_of l.fn.state))
+    (for_each (set_held l.var) (block_held (calls_held l.instances l.depth) l.body) (numbers_of l.left)
+    (held_of l.state) ≡
+    for_each (set_held l.var) (block_held (calls_held l.instances l.depth) l.body) (numbers_of l.fn.turns)
+    (held_of l.fn.state))
     × (l.left.most + l._turn ≤ l.most)
 
 -- how deep the deepest body is
