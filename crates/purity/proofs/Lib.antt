@@ -1,0 +1,15 @@
+pub mod MarkLaws
+pub mod Lists
+pub mod WalkLaws
+pub mod Amongs
+pub mod RowLaws
+pub mod UseLaws
+pub mod Summaries
+pub mod Learned
+pub mod Trees
+pub mod TypeTests
+pub mod Holding
+pub mod Sizes
+pub mod Calm
+pub mod KeptRuns
+pub mod Sounds
