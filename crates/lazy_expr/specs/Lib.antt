@@ -1,0 +1,4 @@
+pub mod Table
+pub mod Plain
+pub mod Promise
+pub mod Lowered
