@@ -1,0 +1,4 @@
+pub mod Serial
+pub mod Loops
+pub mod Seeking
+pub mod Valid
