@@ -21,8 +21,8 @@ use Rattle.loop_prog.specs.declared.program.Statement.TheFolds.{map-Statement, f
 use Rattle.loop_prog.specs.declared.program.Statement.TheViews.{roll-Statement}
 use Rattle.loop_exec.proofs.ListLemmas.{and_left, and_right}
 use Rattle.loop_exec.proofs.Trees.{Good as Proved, by_layers, fused}
-use Rattle.loop_exec.specs.Starts.{all_runnable, all_serial, is_runnable, is_serial, kernels_runnable, kernels_serial}
-use Rattle.loop_exec.specs.Starts.{runnable_step, serial_step}
+use Rattle.loop_exec.specs.Starts.{all_runnable, is_runnable, kernels_runnable, runnable_step}
+use Rattle.omp_loops.specs.Serial.{all_serial, is_serial, kernels_serial, serial_step}
 
 both_true : (a b : Bool) → a ≡ true → b ≡ true → a && b ≡ true
 both_true true b h k = k

@@ -10,3 +10,4 @@ pub mod Trees
 pub mod Zips
 pub mod Ranges
 pub mod Words
+pub mod CallFits

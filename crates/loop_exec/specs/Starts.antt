@@ -49,19 +49,3 @@ kernels_runnable kernels = list_all (λ k. all_runnable k.body) kernels
 -- what a run gives, as a pair
 abbrev pub of_run : Ran → Outcome × Counts
 of_run r = (r.outcome, r.counts)
-
--- there is no parallel loop
-abbrev pub serial_step : l.Statement-F Bool → Bool
-serial_step (l.If cond part other) = all_true part && all_true other
-serial_step (l.For var lo hi by at body) = all_true body
-serial_step (l.ParFor var lo hi by at guard reductions privates body) = false
-serial_step _ = true
-
-abbrev pub is_serial : Statement → Bool
-is_serial = fold-Statement Bool serial_step
-
-abbrev pub all_serial : List Statement → Bool
-all_serial body = all_true (map is_serial body)
-
-abbrev pub kernels_serial : List Kernel → Bool
-kernels_serial kernels = list_all (λ k. all_serial k.body) kernels

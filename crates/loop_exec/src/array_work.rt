@@ -1,5 +1,5 @@
 //! The work of statements that make views. Each function's clause is its line of the definition.
-ghost use Rattle.std.specs.Prelude.{◌≡◌, ◌∷◌, [], ◌++◌, ℤ, List, IfOk, IsTrue, length, map};
+ghost use Rattle.std.specs.Prelude.{◌≡◌, ◌∷◌, [], ◌++◌, ℤ, List, IfOk, IsTrue, OnOk, length, map};
 ghost use Rattle.std.specs.List.{flat_map};
 ghost use Rattle.array_ops.specs.Arrays.{array_of, whole_of};
 ghost use Rattle.array_ops.specs.Elements.{ArrayOf};
@@ -19,7 +19,6 @@ use crate::word_work::words_of;
 use array_ops::{Fill, Subscript, fill, fresh_shape, pick};
 use krn_base::{Loc, NoMemory, Seq};
 use loop_prog::{CoreSub, Oper};
-use smallvec::SmallVec;
 use std::alloc::Global;
 use view_places::{Shape, Slice, View};
 
@@ -47,19 +46,21 @@ fn subscript(words: &[Option<i64>], sub: &CoreSub) -> Subscript
     }
 }
 
-/// Subscripts by the values of their operands, in order.
+/// Puts subscripts by the values of their operands, in order, into the room for them.
 fn subscripts(
-    alloc: Global,
     words: &[Option<i64>],
     subs: &[CoreSub],
-) -> Result<Seq<Subscript>, NoMemory>
-    ensures { IfOk result (λ found. found ≡ map (subscript_at (words_bound words.now)) subs.now) }
+    found: &mut Vec<Subscript>,
+) -> Result<(), NoMemory>
+    ensures { OnOk result (found.new.items ≡ map (subscript_at (words_bound words.now)) subs.now) }
 {
-    let mut found = Seq::new(alloc);
+    found.clear();
     for sub in subs {
-        found.push(subscript(words, sub))?;
+        if found.push(subscript(words, sub)).is_err() {
+            return Err(NoMemory);
+        }
     }
-    Ok(found)
+    Ok(())
 }
 
 /// A view by subscripts, or a fault.
@@ -73,19 +74,19 @@ fn view_or_fault(at: Loc, view: &View, subscripts: &[Subscript]) -> ViewMade
     }
 }
 
-/// A view by subscripts with operands.
+/// A view by subscripts with operands. `found` is the room in which these are listed.
 pub fn picked(
-    alloc: Global,
     at: Loc,
     words: &[Option<i64>],
     view: &View,
     subs: &[CoreSub],
+    found: &mut Vec<Subscript>,
 ) -> Result<ViewMade, NoMemory>
     ensures { IfOk result (λ w. (buffers : List (List ℤ)) → view_done buffers w ≡
         valued buffers at (as_array (picked (subscripts_of subs.now
         (map (operand_in (words_bound words.now)) (flat_map sub_operands subs.now))) (array_of view.now)))) }
 {
-    let found = subscripts(alloc, words, subs)?;
+    subscripts(words, subs, found)?;
     Ok(view_or_fault(at, view, found.as_slice()))
 }
 

@@ -14,13 +14,15 @@ ghost use Rattle.loop_prog.specs.declared.program.Kernel.{Kernel as AnyKernel};
 
 use crate::bank::Bank;
 use crate::bank_calls::words_of;
+use crate::laws::checked_is_runnable;
 use crate::ran::Ran;
 use crate::run::run_block;
 use crate::running::{Ending, Running};
 use array_ops::{Operand, elements};
 use eager_rules::{Call, Counts, Outcome, Value};
 use krn_base::{Kind, NoMemory, Seq};
-use loop_prog::{Kernel, LoopProgram};
+use loop_prog::Kernel;
+use omp_loops::ValidProgram;
 use std::alloc::Global;
 use view_places::Array;
 
@@ -96,7 +98,7 @@ fn ran(
 ) -> Result<Ran, NoMemory>
     ensures { IfOk result (λ r. of_run r ≡ ended rets.now count (reached run, end_of end)) }
 {
-    let Running { bank, counts } = run;
+    let Running { bank, counts, .. } = run;
     let Bank {
         words: _,
         views: _,
@@ -138,6 +140,8 @@ fn run_kernel(alloc: Global, kernel: &Kernel, call: &Call) -> Result<Ran, NoMemo
     let mut run = Running {
         bank,
         counts: NO_COUNTS,
+        shapes: Vec::new(alloc),
+        subscripts: Vec::new(alloc),
     };
     let end = run_block(
         kernel.body.as_slice(),
@@ -148,24 +152,25 @@ fn run_kernel(alloc: Global, kernel: &Kernel, call: &Call) -> Result<Ran, NoMemo
     ran(alloc, kernel.rets.as_slice(), call.buffers.len(), run, end)
 }
 
-/// What a call of the kernel with this number gives, and what the run counts: the meaning of the loop program. No
-/// loop of it is parallel, and its templates and exponents are within their limits.
+/// What a call of the kernel with this number gives, and what the run counts: the meaning of the loop program. Where
+/// there is no such kernel, nothing runs.
 ///
 /// Takes time linear in the statements that run and in the elements that they read and write.
 pub fn run_program(
     alloc: Global,
-    program: &LoopProgram,
+    program: &ValidProgram,
     kernel: u32,
     call: &Call,
 ) -> Result<Ran, NoMemory>
-    requires runnable { kernels_runnable program.now.kernels ≡ true }
     requires fits { (k : AnyKernel) → slice_get program.now.kernels kernel ≡ Some k → Fits (types_of_params k)
         call.now }
     ensures { IfOk result (λ r. of_run r ≡ serial program.now kernel call.now) }
 {
-    match program.kernels.as_slice().get(kernel as usize) {
+    let checked = program.program();
+    checked_is_runnable(checked);
+    match checked.kernels.as_slice().get(kernel as usize) {
         Some(found) => {
-            one_runnable(program.kernels.as_slice(), kernel as usize);
+            one_runnable(checked.kernels.as_slice(), kernel as usize);
             run_kernel(alloc, found, call)
         }
         None => Ok(Ran {

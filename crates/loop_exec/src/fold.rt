@@ -22,7 +22,6 @@ use crate::walks::join_each;
 use eager_rules::Counts;
 use krn_base::{Join, Kind, Loc, NoMemory, Seq};
 use loop_prog::TemplateStep;
-use std::alloc::Global;
 use view_places::{Shape, View};
 
 /// The join of all elements of a shape to which the leaves spread.
@@ -95,7 +94,6 @@ pub fn count_nest(used: bool, counts: &mut Counts)
 
 /// A fold of a template into a scalar register of a kind.
 pub fn fold(
-    alloc: Global,
     to: u32,
     kind: Kind,
     op: Join,
@@ -106,7 +104,7 @@ pub fn fold(
     requires { steps_fit steps.now ≡ true }
     ensures { IfOk result (λ e. (reached run.new, end_of e) ≡ fold_to to kind op steps.now at (reached run.old)) }
 {
-    match shape_of_leaves(alloc, run.bank.views.as_slice(), steps)? {
+    match shape_of_leaves(run.bank.views.as_slice(), steps, &mut run.shapes)? {
         Ok(shape) => {
             let total = join_elements(
                 op,

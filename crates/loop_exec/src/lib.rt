@@ -8,6 +8,8 @@ mod element;
 mod element_calls;
 mod evaluation;
 mod finding;
+#[cfg(test)]
+mod fitting;
 mod fold;
 mod laws;
 mod leaf;
@@ -15,11 +17,12 @@ mod leaf_calls;
 mod nest;
 mod nested;
 mod numbered;
+#[cfg(test)]
+mod programs;
 mod ran;
 mod registers;
 mod run;
 mod running;
-mod serial;
 mod shape_work;
 mod shapes;
 mod stack;
@@ -32,7 +35,5 @@ mod word_work;
 
 pub use bank::Bank;
 pub use evaluation::run_program;
-pub use laws::checked_is_runnable;
 pub use numbered::{run_direct, run_nest};
 pub use ran::Ran;
-pub use serial::has_no_parallel_loop;

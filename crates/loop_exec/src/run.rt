@@ -129,7 +129,7 @@ fn run_statement(
             at,
         } => statements::put(alloc, *of, index.as_slice(), *value, *at, run),
         Statement::ViewOf { to, of, subs, at } => {
-            statements::view_of(alloc, *to, *of, subs.as_slice(), *at, run)
+            statements::view_of(*to, *of, subs.as_slice(), *at, run)
         }
         Statement::Flip { to, of } => Ok(statements::flip(*to, *of, run)),
         Statement::Same { to, of } => Ok(statements::same(*to, *of, run)),
@@ -140,7 +140,7 @@ fn run_statement(
             statements::like(alloc, *to, views.as_slice(), *at, run)
         }
         Statement::Check { test, views, at } => {
-            statements::check(alloc, *test, views.as_slice(), *at, run)
+            statements::check(*test, views.as_slice(), *at, run)
         }
         Statement::Nest { to, template, at } => {
             run_nest(alloc, *to, template.steps.as_slice(), *at, run)
@@ -152,7 +152,7 @@ fn run_statement(
             at,
         } => {
             let kind = kind_of(kinds, *to);
-            fold(alloc, *to, kind, *join, template.steps.as_slice(), *at, run)
+            fold(*to, kind, *join, template.steps.as_slice(), *at, run)
         }
         Statement::If { cond, yes, no } => {
             if word(run.bank.words.as_slice(), *cond) == 0 {

@@ -1,14 +1,18 @@
 use crate::bank::Bank;
-use array_ops::Operand;
+use array_ops::{Operand, Subscript};
 use eager_rules::Counts;
 use krn_base::{Fault, Loc, Seq};
-use view_places::View;
+use view_places::{Shape, View};
 
 /// A run of a kernel: what it holds, and what it has counted.
 #[derive(Debug, Drop)]
 pub struct Running {
     pub bank: Bank,
     pub counts: Counts,
+    /// Room in which a statement lists shapes, kept for the next one.
+    pub shapes: Vec<Shape>,
+    /// Room in which a statement lists subscripts, kept for the next one.
+    pub subscripts: Vec<Subscript>,
 }
 
 /// How a statement ends.

@@ -19,18 +19,19 @@ use loop_prog::Test;
 use std::alloc::Global;
 use view_places::{Shape, View};
 
-/// A new buffer of zeros with the broadcast shape of views.
+/// A new buffer of zeros with the broadcast shape of views, whose shapes are listed in `shapes`.
 pub fn like(
     alloc: Global,
     at: Loc,
     views: &[Option<View>],
     list: &[u32],
+    shapes: &mut Vec<Shape>,
     buffers: &mut Seq<Seq<i64>>,
 ) -> Result<ViewMade, NoMemory>
     ensures { IfOk result (λ w. view_done buffers.new w ≡
         like_work at (map (view_in (views_bound views.now)) list.now) buffers.old) }
 {
-    match shape_of_views(alloc, views, list)? {
+    match shape_of_views(views, list, shapes)? {
         Ok(shape) => {
             let words = fill(alloc, Fill::Zero, View::whole(0, &shape).element_count())?;
             new_array(&shape, words, buffers)
@@ -56,18 +57,18 @@ fn tested(test: Test, at: Loc, shape: &Shape) -> NothingMade
     }
 }
 
-/// A test of the shapes of views.
+/// A test of the shapes of views, which are listed in `shapes`.
 pub fn check(
-    alloc: Global,
     test: Test,
     at: Loc,
     views: &[Option<View>],
     list: &[u32],
+    shapes: &mut Vec<Shape>,
 ) -> Result<NothingMade, NoMemory>
     ensures { IfOk result (λ w. (buffers : List (List ℤ)) → nothing_done buffers w ≡
         check_work test at (map (view_in (views_bound views.now)) list.now) buffers) }
 {
-    match shape_of_views(alloc, views, list)? {
+    match shape_of_views(views, list, shapes)? {
         Ok(shape) => Ok(tested(test, at, &shape)),
         Err(fault) => Ok(Err(Trouble::Failed(fault, at))),
     }

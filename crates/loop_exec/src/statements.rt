@@ -126,7 +126,6 @@ pub fn put(
 
 /// A view by subscripts.
 pub fn view_of(
-    alloc: Global,
     to: u32,
     of: u32,
     subs: &[CoreSub],
@@ -139,7 +138,8 @@ pub fn view_of(
         (reached run.old)) }
 {
     let from = array(run.bank.views.as_slice(), of);
-    let made = picked(alloc, at, run.bank.words.as_slice(), &from, subs)?;
+    let words = run.bank.words.as_slice();
+    let made = picked(at, words, &from, subs, &mut run.subscripts)?;
     Ok(finish_view(to, made, run))
 }
 
@@ -204,23 +204,18 @@ pub fn like(
         at,
         run.bank.views.as_slice(),
         views,
+        &mut run.shapes,
         &mut run.bank.buffers,
     )?;
     Ok(finish_view(to, made, run))
 }
 
 /// A test of the shapes of views.
-pub fn check(
-    alloc: Global,
-    test: Test,
-    views: &[u32],
-    at: Loc,
-    run: &mut Running,
-) -> Result<Ending, NoMemory>
+pub fn check(test: Test, views: &[u32], at: Loc, run: &mut Running) -> Result<Ending, NoMemory>
     ensures { IfOk result (λ e. (reached run.new, end_of e) ≡
         finish [] (check_work test at (map (view (reached run.old)) views.now) run.old.bank.buffers)
         (reached run.old)) }
 {
-    let made = check_made(alloc, test, at, run.bank.views.as_slice(), views)?;
+    let made = check_made(test, at, run.bank.views.as_slice(), views, &mut run.shapes)?;
     Ok(finish_none(made))
 }

@@ -11,4 +11,5 @@ pub returns : goal.returns
 returns c buffers =
     c.view_or_fault.ensures buffers ∙
     ap (λ (found : List Subscript). valued buffers c.args.at (as_array (picked found (array_of c.args.view.now))))
-    (c.as_slice.ensures ∙ c.in_ok-found.ensures ∙ sym (subscripts_are (words_bound c.args.words.now) c.args.subs.now))
+    (c.as_slice.ensures.value ∙ c.in_ok-subscripts.ensures ∙
+    sym (subscripts_are (words_bound c.args.words.now) c.args.subs.now))

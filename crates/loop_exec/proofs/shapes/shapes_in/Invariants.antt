@@ -9,5 +9,5 @@ use Rattle.loop_exec.proofs.shapes.shapes_in.Given as goal
 -- the shapes so far
 abbrev pub invariant-loop-v : goal.invariant-loop-v
 invariant-loop-v l =
-    (map extents l.shapes ≡ flat_map extents_of (map (view_in (views_bound l.views)) (take l.v-index l.list)))
-    × All IsShape l.shapes
+    (map extents l.shapes.items ≡ flat_map extents_of (map (view_in (views_bound l.views)) (take l.v-index l.list)))
+    × All IsShape l.shapes.items

@@ -14,13 +14,13 @@ use Rattle.loop_exec.proofs.statements.view_of.Goals as goal
 pub returns : goal.returns
 returns c =
     let words : valued c.args.run.now.bank.buffers c.args.at (as_array (picked (subscripts_of c.args.subs.now
-    (map (operand_in (words_bound c.as_slice-2.result.now)) (flat_map sub_operands c.args.subs.now)))
+    (map (operand_in (words_bound c.as_slice-words.result.now)) (flat_map sub_operands c.args.subs.now)))
     (array_of c.array-from.result))) ≡
     valued c.args.run.now.bank.buffers c.args.at (as_array (picked (subscripts_of c.args.subs.now
     (operands (reached c.args.run.now) (flat_map sub_operands c.args.subs.now))) (array_of c.array-from.result))) =
     ap (λ (ws : List (Option ℤ)). valued c.args.run.now.bank.buffers c.args.at (as_array (picked
     (subscripts_of c.args.subs.now (map (operand_in (words_bound ws)) (flat_map sub_operands c.args.subs.now)))
-    (array_of c.array-from.result)))) c.as_slice-2.ensures in
+    (array_of c.array-from.result)))) c.as_slice-words.ensures in
     c.finish_view.ensures ∙
     ap (λ (d : Done). finish (reg.View c.args.to ∷ []) d (reached c.args.run.now))
     (c.in_ok-made.ensures c.args.run.now.bank.buffers ∙ words ∙
