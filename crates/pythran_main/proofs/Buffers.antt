@@ -11,7 +11,6 @@ use Rattle.call_binding.specs.declared.head.BoundCall.{BoundCall}
 use Rattle.call_binding.specs.declared.head.KernelHead.{KernelHead}
 use Rattle.call_binding.specs.declared.head.Save as bound_save
 use Rattle.call_report.specs.Report.{report_of}
-use Rattle.call_words.specs.declared.request.Command.{Command}
 use Rattle.eager_rules.specs.Fits.{Fits, IsFilled, IsOfKind}
 use Rattle.eager_rules.specs.Kept.{holding, IsKernel}
 use Rattle.eager_rules.specs.Kept as kept
@@ -20,6 +19,7 @@ use Rattle.eager_rules.specs.Outcome as outcome
 use Rattle.eager_rules.specs.Sound.{IsTyped}
 use Rattle.eager_rules.specs.State.{bound_to}
 use Rattle.eager_rules.specs.declared.call.Call.{Call}
+use Rattle.eager_rules.specs.declared.outcome.Counts.{Counts}
 use Rattle.eager_rules.specs.declared.outcome.Outcome.{Outcome}
 use Rattle.eager_rules.specs.declared.program.Instance.{Instance}
 use Rattle.eager_rules.specs.declared.program.Program.{Program}
@@ -28,7 +28,7 @@ use Rattle.krn_base.specs.declared.kind.Kind.TheVariants.{Int64, Bool as BoolKin
 use Rattle.krn_base.specs.declared.kind.ParamType.{ParamType}
 use Rattle.np_file.specs.Npy.{IsWritable, IsTruth, AreWords}
 use Rattle.view_places.specs.declared.shape.Array.{Array}
-use Rattle.pythran_main.specs.Answer.{with_words, final_arrays, saved_of, buffer_heads, counts_by, counted}
+use Rattle.pythran_main.specs.Answer.{with_words, final_arrays, saved_of, buffer_heads, Run}
 use Rattle.pythran_main.specs.Answer.{head_by, head_of, heads_of, Product, product_of}
 use Rattle.pythran_main.specs.Kernel.{outcome_in, outcome_at, outcome_on}
 use Rattle.pythran_main.specs.Saves.{Save}
@@ -89,17 +89,24 @@ saves_there arrays words saves e h =
     }) saves h
 
 -- what a run makes
-pub product_so : (command : Command) (b : BoundMeaning) (o : Outcome) (text : List ℕ) (fault : Bool) (files : List Save)
-    → text ≡ report_of (buffer_heads b.names b.arrays) o (counts_by command o) → fault ≡ is_some o.fault
-    → files ≡ map (saved_of (final_arrays b.arrays o.buffers)) b.saves
-    → (let made : Product = record { output = text; has_fault = fault; saves = files } in made)
-    ≡ product_of b (counted command o)
-product_so command b o text fault files e f g =
-    let p : Product = product_of b (counted command o) in
+pub product_so : (b : BoundMeaning) (run : Run) (text : List ℕ) (fault : Bool) (files : List Save)
+    → text ≡ report_of (buffer_heads b.names b.arrays) run.outcome run.counts → fault ≡ is_some run.outcome.fault
+    → files ≡ map (saved_of (final_arrays b.arrays run.outcome.buffers)) b.saves
+    → (let made : Product = record { output = text; has_fault = fault; saves = files } in made) ≡ product_of b run
+product_so b run text fault files e f g =
+    let p : Product = product_of b run in
     ap (λ (t : List ℕ). let made : Product = record { output = t; has_fault = fault; saves = files } in made) e
     ∙ ap (λ (t : Bool). let made : Product = record { output = p.output; has_fault = t; saves = files } in made) f
     ∙ ap (λ (t : List Save).
     let made : Product = record { output = p.output; has_fault = p.has_fault; saves = t } in made) g
+
+-- a run by what it gives and what it counts
+pub run_so : (o other : Outcome) (counts others : Option Counts) → o ≡ other → counts ≡ others
+    → (let R : Run = record { outcome = o; counts = counts } in R)
+    ≡ (let R : Run = record { outcome = other; counts = others } in R)
+run_so o other counts others e f =
+    ap (λ (x : Outcome). let R : Run = record { outcome = x; counts = counts } in R) e
+    ∙ ap (λ (x : Option Counts). let R : Run = record { outcome = other; counts = x } in R) f
 
 -- ---- what a run leaves
 

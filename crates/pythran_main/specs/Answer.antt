@@ -1,10 +1,11 @@
 -- What a request comes to, by the files that it loads: the source and what it stands for, the items, the outcome, the
 -- bytes.
-use Rattle.std.specs.Prelude.{◌≡◌, ℕ, ℤ, ◌⊎◌, Bool, if◌then◌else◌, List, [], ◌∷◌, map, slice_get}
+use Rattle.std.specs.Prelude.{◌≡◌, ℕ, ℤ, ◌⊎◌, Bool, List, [], ◌∷◌, map, slice_get}
 use Rattle.std.specs.Prelude.{Option, is_some, Some, None, Result, Ok, Err}
 use Rattle.std.specs.List.{zip}
 use Rattle.krn_base.specs.declared.refusal.Refusal.{Refusal}
 use Rattle.view_places.specs.declared.shape.Array.{Array}
+use Rattle.array_ops.specs.Elements.{Bound}
 use Rattle.eager_rules.specs.declared.outcome.Counts.{Counts}
 use Rattle.eager_rules.specs.declared.outcome.Outcome.{Outcome}
 use Rattle.eager_rules.specs.declared.program.Instance.{Instance}
@@ -20,7 +21,8 @@ use Rattle.call_words.specs.declared.request.Command.{Command}
 use Rattle.call_words.specs.declared.request.Command.TheVariants as command
 use Rattle.host_io.specs.Files.{Held}
 use Rattle.np_file.specs.Npy.{npy_text}
-use Rattle.pythran_main.specs.Kernel.{outcome_on}
+use Rattle.lazy_expr.specs.Promise.{plain_program}
+use Rattle.pythran_main.specs.Kernel.{counts_on, outcome_on}
 use Rattle.pythran_main.specs.Loads.{Content, Whole, Longer, Gives, Loaded}
 use Rattle.pythran_main.specs.Reading.{IsReading}
 use Rattle.call_words.specs.Request.{Asked}
@@ -95,24 +97,21 @@ head_of instances number = head_by (slice_get instances number)
 abbrev pub heads_of : Program → List KernelHead
 heads_of program = map (head_of program.instances) program.kernels
 
--- one nest ran to its end, unless there was a fault
-abbrev pub counts_of : Outcome → Counts
-counts_of outcome = record { nests = if is_some outcome.fault then 0 else 1; temps = 0; parallel = 0; serial = 0 }
+-- what a command counts of a call: `run` what its loop program counts, and `eager` nothing
+abbrev pub counts_by : Command → Program → ℕ → List Array → List Bound → Option Counts
+counts_by (command.Run workers) program kernel arrays args =
+    Some (counts_on (plain_program program) kernel arrays args)
+counts_by command.Eager program kernel arrays args = None
 
--- `run` counts, and `eager` counts nothing
-abbrev pub counts_by : Command → Outcome → Option Counts
-counts_by (command.Run workers) outcome = Some (counts_of outcome)
-counts_by command.Eager outcome = None
-
--- evaluated eagerly, with the command's counts
-abbrev pub counted : Command → Outcome → Run
-counted command outcome = record { outcome = outcome; counts = counts_by command outcome }
+-- the outcome of eager evaluation, with the command's counts
+abbrev pub run_of : Command → Program → BoundMeaning → Run
+run_of command program b = record {
+  outcome = outcome_on program b.kernel b.arrays b.args;
+  counts = counts_by command program b.kernel b.arrays b.args;
+}
 
 abbrev pub source_of : Command → Program → Source
-source_of command program = record {
-  heads = heads_of program;
-  run = λ b. counted command (outcome_on program b.kernel b.arrays b.args);
-}
+source_of command program = record { heads = heads_of program; run = run_of command program }
 
 abbrev pub source_in : Command → Result Program Refusal → Result Source Refusal
 source_in command (Ok program) = Ok (source_of command program)

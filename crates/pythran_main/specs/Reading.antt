@@ -92,20 +92,20 @@ Assigned tree signatures =
     Tests Unassigned (uses.IsAccepted tree (map (exported tree) signatures))
     (uses.IsFirst tree (map (exported tree) signatures))
 
--- a program that a command serves, or the first note of what it doesn't
+-- a program that a command serves, or the first place of what it doesn't
 abbrev pub served_by : Program → Option Loc → Result Program Refusal
 served_by program None = Ok program
 served_by program (Some at) = Err (record { rule = Profile; loc = at })
 
-abbrev pub Serves : Command → List Signature → List Directive → Program → Result Program Refusal → Type 0
-Serves command signatures directives program found =
-    served_by program (soonest None (unserved command signatures directives program)) ≡ found
+abbrev pub Serves : Command → Module → List Directive → Program → Result Program Refusal → Type 0
+Serves command tree directives program found =
+    served_by program (soonest None (unserved command tree directives)) ≡ found
 
 -- the layers behind the program, the tests, the directives, the signatures, the tree and the tokens
 abbrev pub IsCoreReading : Command → Module → List Signature → List Directive → Program → Result Program Refusal
     → Type 0
 IsCoreReading command tree signatures directives program =
-    Then (Assigned tree signatures) (λ _. Serves command signatures directives program)
+    Then (Assigned tree signatures) (λ _. Serves command tree directives program)
 
 abbrev pub IsTypedReading : Command → Module → List Signature → List Directive → Result Program Refusal → Type 0
 IsTypedReading command tree signatures directives =

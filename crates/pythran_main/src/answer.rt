@@ -12,7 +12,7 @@ ghost use Rattle.call_words.specs.Request.{meaning};
 ghost use Rattle.pythran_main.specs.Steps.{product, IsCall, Prepares, CallsTo, LeadsTo};
 ghost use Rattle.pythran_main.specs.World.{files_of, AreKept};
 
-use crate::program::{heads_of, run};
+use crate::program::{Finished, heads_of, run};
 use crate::reading::read_module;
 use crate::saved_file::{SavedFile, run_files};
 use crate::trouble::Trouble;
@@ -54,41 +54,18 @@ fn buffer_heads(
     Ok(heads)
 }
 
-/// The counts of a call that ran one nest to its end, or none of it where there was a fault.
-fn counts_of(outcome: &Outcome) -> Counts
-    ensures { result ≡ spec.counts_of outcome.now }
-{
-    Counts {
-        nests: if outcome.fault.is_some() { 0 } else { 1 },
-        temps: 0,
-        parallel: 0,
-        serial: 0,
-    }
-}
-
-/// The counts that a command tells: `eager` tells none.
-fn counts_by(command: Command, outcome: &Outcome) -> Option<Counts>
-    ensures { result ≡ spec.counts_by command outcome.now }
-{
-    match command {
-        Command::Run { .. } => Some(counts_of(outcome)),
-        Command::Eager => None,
-    }
-}
-
 /// The report of a call with these buffers.
 fn text_of(
     alloc: Global,
-    command: Command,
     names: &[Text],
     buffers: &[Array],
     outcome: &Outcome,
+    counts: Option<Counts>,
 ) -> Result<Seq<u8>, NoMemory>
     ensures { IfOk result (λ text. text ≡
-        report_of (spec.buffer_heads names.now buffers.now) outcome.now (spec.counts_by command outcome.now)) }
+        report_of (spec.buffer_heads names.now buffers.now) outcome.now counts) }
 {
     let heads = buffer_heads(alloc, names, buffers)?;
-    let counts = counts_by(command, outcome);
     let text = report(alloc, heads.as_slice(), outcome, counts)?;
     Ok(Seq::from_vec(text))
 }
@@ -113,13 +90,13 @@ fn run_bound(
         call,
         saves,
     } = bound;
-    let outcome = run(alloc, program, kernel, &call)?;
+    let Finished { outcome, counts } = run(alloc, command, program, kernel, &call)?;
     let text = text_of(
         alloc,
-        command,
         names.as_slice(),
         call.buffers.as_slice(),
         &outcome,
+        counts,
     )?;
     let has_fault = outcome.fault.is_some();
     Ok(Report {

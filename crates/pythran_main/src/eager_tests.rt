@@ -4,28 +4,37 @@
 use crate::tests::{Call, call_all};
 use std::test::Fail;
 
-const ADD: &str = "#pythran export add(int[], int[])\ndef add(a, b):\n    return a + b\n";
+/// A sum of two arrays.
+pub const ADD: &str = "#pythran export add(int[], int[])\ndef add(a, b):\n    return a + b\n";
 
-const DOUBLE: &str = "#pythran export dbl(int[::], int[::])\ndef dbl(a, b):\n    a[:] = b * 2\n";
+/// A store that may read what it writes.
+pub const DOUBLE: &str =
+    "#pythran export dbl(int[::], int[::])\ndef dbl(a, b):\n    a[:] = b * 2\n";
 
-const KEEP: &str =
+/// An array that is made before a store to its operand.
+pub const KEEP: &str =
     "#pythran export keep(int[::], int[::])\ndef keep(a, b):\n    t = a + 1\n    b[:] = 0\n    \
     return t * 2\n";
 
-const KEPT: &str =
+/// The same without the store.
+pub const KEPT: &str =
     "#pythran export keep(int[::], int[::])\ndef keep(a, b):\n    t = a + 1\n    return t * 2\n";
 
-const DIVIDE: &str =
+/// Floors and rests, by 0 among them.
+pub const DIVIDE: &str =
     "#pythran export div(int[], int[])\ndef div(a, b):\n    return a // b, a % b\n";
 
-const CUT: &str =
+/// An element stored before a fault.
+pub const CUT: &str =
     "#pythran export cut(int[], int)\ndef cut(a, n):\n    a[0] = 9\n    return 5 // n\n";
 
-const LOW: &str =
+/// Reductions, of no elements among them.
+pub const LOW: &str =
     "import numpy as np\n#pythran export total(int[])\n#pythran export low(int[])\ndef total(a):\n    \
     return np.sum(a), np.any(a), np.all(a)\ndef low(a):\n    return np.min(a)\n";
 
-const BIG: &str = "import numpy as np\n#pythran export big(int)\ndef big(n):\n    \
+/// An element operation whose result may pass the size limit.
+pub const BIG: &str = "import numpy as np\n#pythran export big(int)\ndef big(n):\n    \
     return np.sum(np.zeros((n, 1), dtype=int) + np.arange(n))\n";
 
 const DOT: &str = "#pythran export dot(int[], int[])\ndef dot(a, b):\n    s = 0\n    \
@@ -35,25 +44,28 @@ const STATS: &str =
     "import numpy as np\n#pythran export stats(int[])\ndef sq(x):\n    return x * x\n\
     def stats(a):\n    return np.sum(sq(a)), a.max()\n";
 
-const OUTER: &str = "#pythran export outer(int[:,:], int[])\ndef outer(a, b):\n    return a * b\n";
+/// A matrix by a row.
+pub const OUTER: &str =
+    "#pythran export outer(int[:,:], int[])\ndef outer(a, b):\n    return a * b\n";
 
-const LESS: &str = "#pythran export add(int[], int[])\ndef add(a, b):\n    return a - True\n";
+/// A truth value among numbers.
+pub const LESS: &str = "#pythran export add(int[], int[])\ndef add(a, b):\n    return a - True\n";
 
 const TRUTHS: &str = "#pythran export add(int[], int[])\ndef add(a, b):\n    return True + True\n";
 
 const RETYPE: &str = "#pythran export maybe(int)\ndef maybe(n):\n    n = True\n";
 
 /// Three signatures of one name: a sum, a choice by a truth value, and of arrays.
-const PICK: &str = "#pythran export pick(int, int)\n#pythran export pick(bool, int)\n\
+pub const PICK: &str = "#pythran export pick(int, int)\n#pythran export pick(bool, int)\n\
     #pythran export pick(int[], int)\ndef pick(a, b):\n    return a + b\n";
 
 /// A loop over elements, with what it leaves where it faults.
-const FILL: &str =
+pub const FILL: &str =
     "#pythran export fill(int[::], int)\ndef fill(a, n):\n    for i in range(n):\n        \
     if i % 2 == 0:\n            a[i] = i * i\n        else:\n            a[i] -= 1\n    return a.T\n";
 
 /// Ranks up to four.
-const CUBE: &str = "import numpy as np\n#pythran export cube(int[:,:,:,:])\ndef cube(a):\n    \
+pub const CUBE: &str = "import numpy as np\n#pythran export cube(int[:,:,:,:])\ndef cube(a):\n    \
     return a[1, :, ::-1], a.shape[3], np.sum(a[0])\n";
 
 static ARRAYS: [Call; 8] = [
@@ -258,14 +270,14 @@ static REFUSED: [Call; 9] = [
         "run m.py dot buf:A=1 a=@A b=@A",
         3,
         "",
-        "refused Profile 1:1\n",
+        "refused Profile 4:5\n",
     ),
     (
         STATS,
         "run m.py stats buf:A=1 a=@A",
         3,
         "",
-        "refused Profile 2:1\n",
+        "refused Profile 6:19\n",
     ),
     (
         RETYPE,

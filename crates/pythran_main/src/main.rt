@@ -15,6 +15,8 @@ mod eager_tests;
 #[cfg(test)]
 mod file_tests;
 mod load;
+#[cfg(test)]
+mod loop_tests;
 mod program;
 mod reading;
 mod saved_file;

@@ -1,14 +1,31 @@
-ghost use Rattle.std.specs.Prelude.{◌≡◌, IfOk, map};
+ghost use Rattle.std.specs.Prelude.{◌≡◌, IfOk, None, Some, map};
 ghost use Rattle.eager_rules.specs.Sound.{IsTyped};
 ghost use Rattle.eager_rules.specs.State.{bound_to};
+ghost use Rattle.lazy_expr.specs.Promise.{ProgramKeepsOutcomes};
+ghost use Rattle.lazy_expr.specs.Promise.{plain_program as plain_program_of};
+ghost use Rattle.loop_prog.specs.Check.{flaw_of};
 ghost use Rattle.pythran_main.specs.Answer as answer;
 ghost use Rattle.pythran_main.specs.Kernel as spec;
 ghost use Rattle.pythran_main.specs.Steps.{IsCall, KeepsBuffers};
 
 use call_binding::KernelHead;
-use eager_rules::{Call, Instance, Outcome, Program, eager, typed_has_small_powers};
+use call_words::Command;
+use eager_rules::{
+    Call, Counts, Instance, Outcome, Program, all_assigned, eager, typed_has_small_powers,
+    typed_runs_keep_types,
+};
 use krn_base::{NoMemory, ParamType, Seq, Text};
+use lazy_expr::{has_flat_kernels, plain_program};
+use loop_exec::run_program;
+use omp_loops::{ValidProgram, validate};
 use std::alloc::{AllocError, Global};
+
+/// A finished call, with what was counted where a command counts.
+#[derive(Debug, PartialEq, Eq, Drop)]
+pub struct Finished {
+    pub outcome: Outcome,
+    pub counts: Option<Counts>,
+}
 
 /// The same parameters.
 fn copy_params(
@@ -52,14 +69,92 @@ pub fn heads_of(alloc: Global, program: &Program) -> Result<Vec<KernelHead>, All
     Ok(heads)
 }
 
-/// What calling a kernel gives, one whole-array operation after another.
-pub fn run(alloc: Global, program: &Program, kernel: u32, call: &Call) -> Result<Outcome, NoMemory>
+/// What calling a kernel gives, one whole-array operation after another. Nothing is counted.
+fn evaluate(
+    alloc: Global,
+    program: &Program,
+    kernel: u32,
+    call: &Call,
+) -> Result<Finished, NoMemory>
     requires typed { IsTyped program.now }
     requires fits { IsCall program.now kernel call.now }
-    ensures kept { IfOk result (λ outcome. KeepsBuffers call.now.buffers outcome.buffers) }
-    ensures outcome { IfOk result (λ outcome. outcome ≡
+    ensures kept { IfOk result (λ done. KeepsBuffers call.now.buffers done.outcome.buffers) }
+    ensures outcome { IfOk result (λ done. done.outcome ≡
         spec.outcome_on program.now kernel call.now.buffers (map bound_to call.now.args)) }
+    ensures counts { IfOk result (λ done. done.counts ≡ None) }
 {
     typed_has_small_powers(program);
-    eager(alloc, program, kernel, call)
+    let outcome = eager(alloc, program, kernel, call)?;
+    Ok(Finished {
+        outcome,
+        counts: None,
+    })
+}
+
+/// The loop program of a module, in which each kernel has the outcome of eager evaluation. Want of memory too where the
+/// program has a call, reads what it may not have bound or doesn't meet the loop program's conditions: no module that
+/// is served has such a program, but this isn't proved.
+fn loops_of(alloc: Global, program: &Program) -> Result<ValidProgram, NoMemory>
+    requires typed { IsTyped program.now }
+    ensures form { IfOk result (λ loops. loops ≡ plain_program_of program.now) }
+    ensures checked { IfOk result (λ loops. flaw_of loops ≡ None) }
+    ensures outcomes { IfOk result (λ loops. ProgramKeepsOutcomes program.now loops) }
+{
+    if !all_assigned(alloc, program)? {
+        return Err(NoMemory);
+    }
+    if !has_flat_kernels(program) {
+        return Err(NoMemory);
+    }
+    let loops = plain_program(alloc, program)?;
+    match validate(alloc, loops) {
+        Ok(valid) => Ok(valid),
+        Err(_stop) => Err(NoMemory),
+    }
+}
+
+/// What the loop program of a kernel gives, and what it counts.
+fn run_loops(
+    alloc: Global,
+    program: &Program,
+    kernel: u32,
+    call: &Call,
+) -> Result<Finished, NoMemory>
+    requires typed { IsTyped program.now }
+    requires fits { IsCall program.now kernel call.now }
+    ensures kept { IfOk result (λ done. KeepsBuffers call.now.buffers done.outcome.buffers) }
+    ensures outcome { IfOk result (λ done. done.outcome ≡
+        spec.outcome_on program.now kernel call.now.buffers (map bound_to call.now.args)) }
+    ensures counts { IfOk result (λ done. done.counts ≡
+        Some (spec.counts_on (plain_program_of program.now) kernel call.now.buffers (map bound_to call.now.args))) }
+{
+    typed_runs_keep_types(program);
+    let loops = loops_of(alloc, program)?;
+    let ran = run_program(alloc, &loops, kernel, call)?;
+    Ok(Finished {
+        outcome: ran.outcome,
+        counts: Some(ran.counts),
+    })
+}
+
+/// What a command makes of a call: `run` by the kernel's loop program, `eager` by whole-array operations.
+pub fn run(
+    alloc: Global,
+    command: Command,
+    program: &Program,
+    kernel: u32,
+    call: &Call,
+) -> Result<Finished, NoMemory>
+    requires typed { IsTyped program.now }
+    requires fits { IsCall program.now kernel call.now }
+    ensures kept { IfOk result (λ done. KeepsBuffers call.now.buffers done.outcome.buffers) }
+    ensures outcome { IfOk result (λ done. done.outcome ≡
+        spec.outcome_on program.now kernel call.now.buffers (map bound_to call.now.args)) }
+    ensures counts { IfOk result (λ done. done.counts ≡
+        answer.counts_by command program.now kernel call.now.buffers (map bound_to call.now.args)) }
+{
+    match command {
+        Command::Run { .. } => run_loops(alloc, program, kernel, call),
+        Command::Eager => evaluate(alloc, program, kernel, call),
+    }
 }

@@ -75,23 +75,25 @@ fn numbered_all(
     Ok(found)
 }
 
-/// A program that a command serves, or the refusal of the first note of what it doesn't.
+/// A program that a command serves, or the refusal at the first place of what it doesn't.
 fn serve(
+    alloc: Global,
     command: Command,
-    signatures: &[Signature],
+    tree: &Module,
     directives: &[Directive],
     program: Program,
-) -> Result<Program, Refusal>
+) -> Result<Result<Program, Refusal>, NoMemory>
     requires typed { IsTyped program }
-    ensures one { IsOne (reading.Serves command signatures.now directives.now program) result }
-    ensures typed { IfOk result IsTyped }
+    ensures one { IfOk result (IsOne (reading.Serves command tree.now directives.now program)) }
+    ensures typed { IfOk result (λ read. IfOk read IsTyped) }
 {
-    match first_unserved(command, signatures, directives, &program) {
-        None => Ok(program),
-        Some(loc) => Err(Refusal {
+    let first = first_unserved(alloc, command, tree, directives)?;
+    match first {
+        None => Ok(Ok(program)),
+        Some(loc) => Ok(Err(Refusal {
             rule: Rule::Profile,
             loc,
-        }),
+        })),
     }
 }
 
@@ -131,7 +133,7 @@ fn read_assigned(
     ensures typed { IfOk result (λ read. IfOk read IsTyped) }
 {
     match test_assigned(alloc, tree, signatures) {
-        Ok(()) => Ok(serve(command, signatures, directives, program)),
+        Ok(()) => serve(alloc, command, tree, directives, program),
         Err(Stop::Refused(refused)) => Ok(Err(refused)),
         Err(Stop::Memory) => Err(NoMemory),
     }
@@ -284,7 +286,7 @@ fn read_tokens(
 
 /// The program of the module that the text is, or the refusal of the first rule that refuses it: `Lex`, `Syntax`,
 /// `Export`, `Directive`, `Profile`, `Name`, `Recursion`, then `Type` and `Retype` by one walk, `Unassigned`, and
-/// `Profile` again at the first note of a kernel or a directive that the command doesn't serve.
+/// `Profile` again at the first own call or directive that the command doesn't serve.
 pub fn read_module(
     alloc: Global,
     command: Command,

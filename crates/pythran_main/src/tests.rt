@@ -19,7 +19,7 @@ const LEN: &str = "#pythran export len(int[], int[])\ndef len(a, b):\n    return
 /// Two kernels, a function that no export reaches, and an import.
 const TWO: &str = "import numpy as np\n#pythran export plus(int[], int[])\n\
     #pythran export times(int[], int[])\ndef plus(a, b):\n    return b + a\ndef times(p, q):\n    c = p * q\n    \
-    return c\ndef other(a): return other(a)\n";
+    return c\ndef other(a): return a\n";
 
 const SHORT: &str = "def add(a, b): return a + b\n\n#pythran export add(int[], int[])";
 
@@ -121,9 +121,9 @@ static REFUSALS: [Call; 16] = [
     (
         SUB,
         "run m.py add buf:A=1 a=@A b=@A",
-        3,
+        0,
+        "return int64 (1,) 0\nbuffer A int64 (1,) 1\ncounts nests 1 temps 0 parallel 0 serial 0\n",
         "",
-        "refused Profile 1:1\n",
     ),
     ("", "run m.py add", 4, "", "error item 0\n"),
     (LEN, "run m.py len", 3, "", "refused Name 2:5\n"),
@@ -164,8 +164,6 @@ const NOTE: &str = "#pythran export add(int[], int[])\n";
 const HEAD: &str = "def add(a, b):";
 
 const OMP: &str = "#omp parallel for\n";
-
-const PROFILE: &str = "refused Profile 1:1\n";
 
 /// What stands before the note of a module, its `def` and its returned value: comments, blank lines, texts between, and
 /// other layouts of the same tree.
@@ -228,18 +226,19 @@ static MODULES_3: [(&str, &str, &str, &str); 9] = [
     ),
 ];
 
-static MODULES_4: [(&str, &str, &str, &str); 8] = [
+static MODULES_4: [(&str, &str, &str, &str); 6] = [
     // what isn't served
-    ("", HEAD, "a - b", PROFILE),
-    ("", HEAD, "a + b, a", PROFILE),
-    ("", HEAD, "a + b + a", PROFILE),
-    ("", HEAD, "a + 1", PROFILE),
-    ("", HEAD, "a", PROFILE),
     (
         "def f(x): return x\n",
         HEAD,
         "f(a) + b",
-        "refused Profile 2:1\n",
+        "refused Profile 4:12\n",
+    ),
+    (
+        "def f(x): return f(x)\n",
+        HEAD,
+        "a + b",
+        "refused Profile 1:18\n",
     ),
     (
         "def f(x):\n    # omp parallel for\n    for i in range(3): pass\n",
@@ -248,10 +247,22 @@ static MODULES_4: [(&str, &str, &str, &str); 8] = [
         "refused Profile 2:5\n",
     ),
     (
-        "#pythran export f(int)\ndef f(x): return x\n",
+        "def f(x):\n    # omp parallel for\n    for i in range(3): pass\n    return x\n",
+        HEAD,
+        "a + f(b)",
+        "refused Profile 2:5\n",
+    ),
+    (
+        "def f(x):\n    return x\ndef g(x):\n    f(x)\n    # omp parallel for\n    for i in range(3): pass\n",
         HEAD,
         "a + b",
-        PROFILE,
+        "refused Profile 4:5\n",
+    ),
+    (
+        "def f(x):\n    return g(x)\ndef g(x):\n    return x\n",
+        HEAD,
+        "f(a), g(b)",
+        "refused Profile 2:12\n",
     ),
 ];
 
