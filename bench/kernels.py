@@ -33,6 +33,12 @@ def choose(a, b):
     return a[-1]
 
 
+#pythran export scaled(int64[], int64[])
+def scaled(a, b):
+    b[:] = (a + b * 2) & 7
+    return b[-1]
+
+
 #pythran export shifted(int64[], int64[])
 def shifted(a, b):
     a[1:] = a[:-1] & b[1:]

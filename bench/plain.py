@@ -27,6 +27,11 @@ def choose(a, b):
     return a[-1]
 
 
+def scaled(a, b):
+    b[:] = [(x + y * 2) & 7 for x, y in zip(a, b)]
+    return b[-1]
+
+
 def shifted(a, b):
     a[1:] = [x & y for x, y in zip(a[:-1], b[1:])]
     return a[-1]
