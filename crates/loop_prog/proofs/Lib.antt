@@ -1,3 +1,4 @@
+pub mod UndoLemmas
 pub mod Flaws
 pub mod Blocks
 pub mod BlockWalks

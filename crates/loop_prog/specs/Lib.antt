@@ -5,6 +5,7 @@ pub mod Guards
 pub mod Statements
 pub mod Serial
 pub mod Paths
+pub mod Undo
 pub mod Conditions
 pub mod Check
 pub mod Judging

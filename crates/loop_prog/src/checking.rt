@@ -8,6 +8,7 @@ use crate::inspect::{inspect_block, judge, kept_at, placed};
 use crate::invalid::CheckStop;
 use crate::kept::{Site, both_keep, first_broken};
 use crate::program::{Kernel, LoopProgram};
+use krn_base::Seq;
 use std::alloc::Global;
 
 /// A kernel behind earlier ones. Its own rules are tested with those of its first statement.
@@ -20,7 +21,7 @@ fn check_kernel(
     ensures { Judged result number.old number.new (kernel_findings earlier.now kernel.now) }
 {
     let own = kernel_keeps(alloc, earlier, kernel)?;
-    let start = at_start(alloc, kernel)?;
+    let mut start = at_start(alloc, kernel)?;
     let body = kernel.body.as_slice();
     let whole = Site {
         depth: 0,
@@ -33,7 +34,15 @@ fn check_kernel(
     if let Some(rule) = first_broken(both_keep(own, kept)) {
         return Err(CheckStop::Invalid { at: *number, rule });
     }
-    inspect_block(body, kernel, whole, alloc, start, number)
+    inspect_block(
+        body,
+        kernel,
+        whole,
+        alloc,
+        &mut start,
+        &mut Seq::new(alloc),
+        number,
+    )
 }
 
 /// Whether a loop program is taken: each statement keeps each rule. Else the first statement that doesn't, numbered
@@ -42,9 +51,10 @@ fn check_kernel(
 ///
 /// The rules from `Loop` on, which are those of parallel loops, aren't tested here.
 ///
-/// Registers and what is assigned are looked up in tables. The time is that of the statements, each as often as there
-/// are loops and blocks with statements behind them around it, of the registers of the kernel for each statement with
-/// blocks, and of the kernels' heads, each against those before it.
+/// Registers and what is assigned are looked up in tables. Behind a block what it changed is undone, so that the time
+/// is that of the statements, each once for each block around it, of which there are at most 128; a loop's body is gone
+/// through once more for each loop around it, for what stays assigned at the loop's head. Beside that it is the time of
+/// each kernel's registers once, and of the kernels' heads, each against those before it.
 pub fn check(program: &LoopProgram, alloc: Global) -> Result<(), CheckStop>
     ensures { IsFlaw result (flaw_of program.now) }
 {

@@ -282,7 +282,7 @@ pub fn at_start(alloc: Global, kernel: &Kernel) -> Result<Paths, NoMemory>
         reached: true,
         slots: none_assigned(alloc, 2 * count)?,
     };
-    assign(regs.as_slice(), &mut start);
+    assign(regs.as_slice(), &mut start, &mut Seq::new(alloc))?;
     Ok(start)
 }
 

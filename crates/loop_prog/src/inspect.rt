@@ -1,23 +1,25 @@
 // The walk over the statements of a kernel, with the first one that breaks a rule.
 ghost use Rattle.std.specs.Prelude.{◌≡◌, ◌<◌, ◌++◌, ◌∷◌, [], IfOk, map, true};
 ghost use Rattle.std.specs.List.{list_all};
-ghost use Rattle.loop_prog.specs.Check.{block_findings, deeper, findings, kept_at};
-ghost use Rattle.loop_prog.specs.Check.{nesting_fits, returns_fit, with_findings};
+ghost use Rattle.loop_prog.specs.Check.{deeper, findings, kept_at, nesting_fits, returns_fit};
 ghost use Rattle.loop_prog.specs.Conditions.{is_there};
 ghost use Rattle.loop_prog.specs.Judging.{Judged, block_by, inner_by, placed};
-ghost use Rattle.loop_prog.specs.Paths.{all_assigned, is_assigned};
+ghost use Rattle.loop_prog.specs.Paths.{all_assigned, block_flow, body_start, flow, head, is_assigned, meet};
+ghost use Rattle.loop_prog.specs.Undo.{Undoes};
 ghost use Rattle.loop_prog.specs.declared.program.Statement.{out-Statement};
 
-use crate::flows::{body_start, copied, flow, slot};
+use crate::flows::{assign, flow, flow_loop, slot};
 use crate::invalid::{CheckStop, InvalidRule};
+use crate::joins::{go_back, go_to_meeting};
 use crate::kept::{Kept, Site, first_broken};
+use crate::marks::Mark;
 use crate::paths::Paths;
 use crate::program::{Kernel, Reg, Statement};
 use crate::ranks::ranks_fit;
 use crate::registers::{binds, named, reads};
 use crate::template_kinds::kinds_fit;
 use crate::templates::templates_fit;
-use krn_base::NoMemory;
+use krn_base::{NoMemory, Seq};
 use std::alloc::Global;
 
 /// The greatest number of blocks around a statement with blocks of its own, and one more.
@@ -159,28 +161,28 @@ fn deeper(site: Site, ends: bool) -> Site
     }
 }
 
-/// The statements of a block, of which the last stands at `site`. What is assigned at its start changes.
+/// The statements of a block, of which the last stands at `site`. What is assigned goes from its start to its end.
 #[cycle(inspect)]
 pub fn inspect_block(
     body: &[Statement],
     kernel: &Kernel,
     site: Site,
     alloc: Global,
-    paths: Paths,
+    paths: &mut Paths,
+    log: &mut Seq<Mark>,
     number: &mut u32,
 ) -> Result<(), CheckStop>
-    ensures { Judged result number.old number.new
-        (block_findings (map (with_findings kernel.now) body.now) site paths) }
+    ensures judged { Judged result number.old number.new (block_by kernel.now body.now site paths.old) }
+    ensures paths { IfOk result (λ u. paths.new ≡ block_flow body.now paths.old) }
+    ensures undo { IfOk result (λ u. Undoes log.new paths.new log.old paths.old) }
 {
-    let mut paths = paths;
     let mut seen: usize = 0;
     for statement in body {
         seen += 1;
         let place = placed(site, seen == body.len());
-        if let Err(stop) = inspect(statement, kernel, place, alloc, &paths, number) {
+        if let Err(stop) = inspect(statement, kernel, place, alloc, paths, log, number) {
             return Err(stop);
         }
-        flow(statement, alloc, &mut paths)?;
     }
     Ok(())
 }
@@ -193,66 +195,110 @@ fn inspect_parts(
     kernel: &Kernel,
     site: Site,
     alloc: Global,
-    paths: &Paths,
+    paths: &mut Paths,
+    log: &mut Seq<Mark>,
     number: &mut u32,
 ) -> Result<(), CheckStop>
-    ensures { Judged result number.old number.new
-        (block_by kernel.now yes.now site paths.now ++ block_by kernel.now no.now site paths.now) }
+    ensures judged { Judged result number.old number.new
+        (block_by kernel.now yes.now site paths.old ++ block_by kernel.now no.now site paths.old) }
+    ensures paths { IfOk result (λ u. paths.new ≡ meet (block_flow yes.now paths.old) (block_flow no.now paths.old)) }
+    ensures undo { IfOk result (λ u. Undoes log.new paths.new log.old paths.old) }
 {
-    let first = copied(paths)?;
-    if let Err(stop) = inspect_block(yes, kernel, site, alloc, first, number) {
+    let reached = paths.reached;
+    let mut own = Seq::new(alloc);
+    if let Err(stop) = inspect_block(yes, kernel, site, alloc, paths, &mut own, number) {
         return Err(stop);
     }
-    let second = copied(paths)?;
-    inspect_block(no, kernel, site, alloc, second, number)
+    let first = go_back(alloc, reached, own.as_slice(), paths)?;
+    let mut others = Seq::new(alloc);
+    if let Err(stop) = inspect_block(no, kernel, site, alloc, paths, &mut others, number) {
+        return Err(stop);
+    }
+    go_to_meeting(alloc, &first, others.as_slice(), paths, log)?;
+    Ok(())
 }
 
-/// The blocks of a statement.
+/// The body of a loop, from what is assigned at the loop's head, and back to there.
+#[cycle(inspect)]
+fn inspect_turn(
+    var: u32,
+    body: &[Statement],
+    kernel: &Kernel,
+    site: Site,
+    alloc: Global,
+    paths: &mut Paths,
+    log: &mut Seq<Mark>,
+    number: &mut u32,
+) -> Result<(), CheckStop>
+    ensures judged { Judged result number.old number.new
+        (block_by kernel.now body.now site (body_start var (block_flow body.now) paths.old)) }
+    ensures paths { IfOk result (λ u. paths.new ≡ head var (block_flow body.now) paths.old) }
+    ensures undo { IfOk result (λ u. Undoes log.new paths.new log.old paths.old) }
+{
+    flow_loop(var, body, alloc, paths, log)?;
+    let reached = paths.reached;
+    let mut own = Seq::new(alloc);
+    assign(&[Reg::Word(var)], paths, &mut own)?;
+    if let Err(stop) = inspect_block(body, kernel, site, alloc, paths, &mut own, number) {
+        return Err(stop);
+    }
+    go_back(alloc, reached, own.as_slice(), paths)?;
+    Ok(())
+}
+
+/// The blocks of a statement, from before the statement to behind it.
 #[cycle(inspect)]
 fn inspect_inner(
     statement: &Statement,
     kernel: &Kernel,
     site: Site,
     alloc: Global,
-    paths: &Paths,
+    paths: &mut Paths,
+    log: &mut Seq<Mark>,
     number: &mut u32,
 ) -> Result<(), CheckStop>
     requires { nesting_fits site (out-Statement statement.now) ≡ true }
-    ensures { Judged result number.old number.new (inner_by kernel.now (out-Statement statement.now) site paths.now) }
+    ensures judged { Judged result number.old number.new
+        (inner_by kernel.now (out-Statement statement.now) site paths.old) }
+    ensures paths { IfOk result (λ u. paths.new ≡ flow statement.now paths.old) }
+    ensures undo { IfOk result (λ u. Undoes log.new paths.new log.old paths.old) }
 {
     match statement {
-        Statement::If { yes, no, .. } => inspect_parts(
-            yes.as_slice(),
-            no.as_slice(),
-            kernel,
-            deeper(site, site.ends),
-            alloc,
-            paths,
-            number,
-        ),
+        Statement::If { yes, no, .. } => {
+            let inside = deeper(site, site.ends);
+            let (yes, no) = (yes.as_slice(), no.as_slice());
+            inspect_parts(yes, no, kernel, inside, alloc, paths, log, number)
+        }
         Statement::For { var, body, .. } => {
-            let start = body_start(*var, body.as_slice(), alloc, paths)?;
-            inspect_block(
+            let inside = deeper(site, false);
+            inspect_turn(
+                *var,
                 body.as_slice(),
                 kernel,
-                deeper(site, false),
+                inside,
                 alloc,
-                start,
+                paths,
+                log,
                 number,
             )
         }
         Statement::ParFor { var, body, .. } => {
-            let start = body_start(*var, body.as_slice(), alloc, paths)?;
-            inspect_block(
+            let inside = deeper(site, false);
+            inspect_turn(
+                *var,
                 body.as_slice(),
                 kernel,
-                deeper(site, false),
+                inside,
                 alloc,
-                start,
+                paths,
+                log,
                 number,
             )
         }
-        _ => Ok(()),
+        _ => {
+            flow(statement, alloc, paths, log)?;
+            Ok(())
+        }
     }
 }
 
@@ -263,14 +309,17 @@ fn inspect(
     kernel: &Kernel,
     site: Site,
     alloc: Global,
-    paths: &Paths,
+    paths: &mut Paths,
+    log: &mut Seq<Mark>,
     number: &mut u32,
 ) -> Result<(), CheckStop>
-    ensures { Judged result number.old number.new (findings kernel.now statement.now site paths.now) }
+    ensures judged { Judged result number.old number.new (findings kernel.now statement.now site paths.old) }
+    ensures paths { IfOk result (λ u. paths.new ≡ flow statement.now paths.old) }
+    ensures undo { IfOk result (λ u. Undoes log.new paths.new log.old paths.old) }
 {
     let kept = kept_at(statement, kernel, site, alloc, paths)?;
     if let Err(stop) = judge(kept, number) {
         return Err(stop);
     }
-    inspect_inner(statement, kernel, site, alloc, paths, number)
+    inspect_inner(statement, kernel, site, alloc, paths, log, number)
 }

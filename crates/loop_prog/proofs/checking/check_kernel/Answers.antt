@@ -33,4 +33,4 @@ returns c =
     head_goes c.args.earlier.now c.args.kernel.now c.in_ok-own.own c.in_ok-kept.kept first (drop 1 body) body
     c.placed.result c.in_ok-start.start c.args.number.now c.in_ok-own.ensures c.as_slice-body.ensures is
     c.placed.ensures c.in_ok-start.ensures c.in_ok-kept.ensures c.inspect_block.result c.inspect_block.new.number
-    (sym broken ∙ c.in_default-first_broken.is) c.inspect_block.ensures
+    (sym broken ∙ c.in_default-first_broken.is) c.inspect_block.ensures.judged
