@@ -1,3 +1,4 @@
+pub mod HeadKeys
 pub mod UndoLemmas
 pub mod Flaws
 pub mod Blocks

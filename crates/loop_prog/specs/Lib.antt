@@ -9,3 +9,4 @@ pub mod Undo
 pub mod Conditions
 pub mod Check
 pub mod Judging
+pub mod Heads

@@ -1,11 +1,12 @@
 // What a kernel is by itself: its parameters, the ranks of its arrays, and its name.
-ghost use Rattle.std.specs.Prelude.{◌≡◌, ◌&&◌, IfOk, bytes_eq, false, map, nat_le, not, replicate};
+ghost use Rattle.std.specs.Prelude.{◌≡◌, ◌&&◌, IfOk, List, false, map, nat_le, not, replicate};
 ghost use Rattle.std.specs.List.{list_all, list_any, zip};
 ghost use Rattle.loop_prog.specs.Check.{is_rank, kernel_keeps, param_is_ranked, param_kind, param_rank, same_head};
-ghost use Rattle.loop_prog.specs.Check.{has_some, same_param, same_params};
+ghost use Rattle.loop_prog.specs.Check.{has_some};
 ghost use Rattle.loop_prog.specs.Conditions.{is_there};
 ghost use Rattle.loop_prog.specs.Paths.{at_start};
 ghost use Rattle.loop_prog.specs.Serial.{param_regs, types_of_params};
+ghost use Rattle.loop_prog.specs.declared.program.Kernel as declared;
 
 use crate::flows::assign;
 use crate::inspect::are_there;
@@ -160,70 +161,11 @@ fn rets_are_ranked(rets: &[(Kind, u8)]) -> bool
     true
 }
 
-/// Whether two parameters have the same type.
-fn same_param(a: ParamType, b: ParamType) -> bool
-    ensures { result ≡ same_param a b }
-{
-    match (a, b) {
-        (ParamType::Scalar(a), ParamType::Scalar(b)) => same_kind(a, b),
-        (ParamType::Flat(a, m), ParamType::Flat(b, n)) => same_kind(a, b) && m == n,
-        (ParamType::Strided(a, m), ParamType::Strided(b, n)) => same_kind(a, b) && m == n,
-        _ => false,
-    }
-}
-
-/// Whether two lists of parameters have the same types.
-fn same_params(params: &[(Text, ParamType)], others: &[(Text, ParamType)]) -> bool
-    ensures { result ≡ same_params (map (λ p. p.1) params.now) (map (λ p. p.1) others.now) }
-{
-    let mut left = params;
-    let mut right = others;
-    while let [a, more @ ..] = left {
-        let [b, rest @ ..] = right else {
-            return false;
-        };
-        if !same_param(a.1, b.1) {
-            return false;
-        }
-        left = more;
-        right = rest;
-    }
-    right.is_empty()
-}
-
-/// Whether two names are the same.
-fn same_name(a: &[u8], b: &[u8]) -> bool
-    ensures { result ≡ bytes_eq a.now b.now }
-{
-    a == b
-}
-
-/// Whether two kernels have one name and the same parameter types.
-fn same_head(a: &Kernel, b: &Kernel) -> bool
-    ensures { result ≡ same_head a.now b.now }
-{
-    same_name(a.name.as_slice(), b.name.as_slice())
-        && same_params(a.params.as_slice(), b.params.as_slice())
-}
-
-/// Whether one of these kernels has the same head.
-fn is_repeated(kernel: &Kernel, earlier: &[Kernel]) -> bool
-    ensures { result ≡ list_any (same_head kernel.now) earlier.now }
-{
-    for other in earlier {
-        if same_head(kernel, other) {
-            return true;
-        }
-    }
-    false
-}
-
 /// Whether a kernel has its parameters' registers and a head of its own.
-fn own_registers(kernel: &Kernel, regs: &[Reg], earlier: &[Kernel]) -> bool
-    ensures { result ≡
-        list_all (is_there kernel.now) regs.now && not (list_any (same_head kernel.now) earlier.now) }
+fn own_registers(kernel: &Kernel, regs: &[Reg], repeated: bool) -> bool
+    ensures { result ≡ list_all (is_there kernel.now) regs.now && not repeated }
 {
-    are_there(kernel, regs) && !is_repeated(kernel, earlier)
+    are_there(kernel, regs) && !repeated
 }
 
 /// Whether a kernel's arrays have the ranks of arrays, and its parameters those of their registers.
@@ -249,12 +191,13 @@ fn has_some(body: &[Statement]) -> bool
     }
 }
 
-/// The rules that a kernel keeps by itself, behind earlier kernels.
-pub fn kernel_keeps(alloc: Global, earlier: &[Kernel], kernel: &Kernel) -> Result<Kept, NoMemory>
-    ensures { IfOk result (λ kept. kept ≡ kernel_keeps earlier.now kernel.now) }
+/// The rules that a kernel keeps by itself, where its head is that of an earlier kernel or isn't.
+pub fn kernel_keeps(alloc: Global, kernel: &Kernel, repeated: bool) -> Result<Kept, NoMemory>
+    ensures { IfOk result (λ kept. (earlier : List declared.Kernel) →
+        repeated ≡ list_any (same_head kernel.now) earlier → kept ≡ kernel_keeps earlier kernel.now) }
 {
     let regs = param_regs(alloc, kernel.params.as_slice())?;
-    let register = own_registers(kernel, regs.as_slice(), earlier);
+    let register = own_registers(kernel, regs.as_slice(), repeated);
     let kind = param_kinds(kernel, regs.as_slice(), kernel.params.as_slice());
     let rank = own_ranks(kernel, regs.as_slice());
     let returns = has_some(kernel.body.as_slice());

@@ -10,6 +10,7 @@ mod invalid;
 mod joins;
 mod kept;
 mod kinds;
+mod known;
 mod marks;
 mod paths;
 mod program;
