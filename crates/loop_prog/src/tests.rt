@@ -140,16 +140,16 @@ fn found_in(alloc: Global, body: Seq<Statement>) -> Result<Result<(), CheckStop>
     Ok(check(&LoopProgram { kernels }, alloc))
 }
 
-// A For inside as many others.
-fn nested(alloc: Global, depth: u32) -> Result<Statement, NoMemory> {
-    let mut inner = repeat(2, ONE, Seq::new(alloc));
+// A statement inside as many loops.
+fn nested(alloc: Global, innermost: Statement, depth: u32) -> Result<Statement, NoMemory> {
+    let mut inner = innermost;
     for _level in 0..depth {
         inner = repeat(2, ONE, one(alloc, inner)?);
     }
     Ok(inner)
 }
 
-fn guarded(alloc: Global, reg: u32, private: Reg) -> Result<Statement, NoMemory> {
+fn guarded(alloc: Global, var: u32, reg: u32, private: Reg) -> Result<Statement, NoMemory> {
     let form = Form {
         constant: 0,
         terms: list(alloc, &[(1, Symbol::Reg(reg))])?,
@@ -162,7 +162,7 @@ fn guarded(alloc: Global, reg: u32, private: Reg) -> Result<Statement, NoMemory>
     })?;
     parts.push(GuardPart::Fits(Seq::<Dims>::new(alloc)))?;
     Ok(Statement::ParFor {
-        var: 2,
+        var,
         lo: ONE,
         hi: ONE,
         step: ONE,
@@ -182,8 +182,8 @@ fn line(alloc: Global, number: usize) -> Result<Statement, NoMemory> {
         0 => moved(alloc, 4, ONE),
         1 => moved(alloc, 2, Oper::Name(4)),
         2 => like(alloc, 4, &[0]),
-        3 => guarded(alloc, 4, Reg::Word(2)),
-        4 => guarded(alloc, 2, Reg::View(4)),
+        3 => guarded(alloc, 2, 4, Reg::Word(2)),
+        4 => guarded(alloc, 2, 2, Reg::View(4)),
         5 => set(alloc, 2, WordOp::Bin(BinOp::Add), &[t, Oper::Truth(true)]),
         6 => set(alloc, 2, WordOp::Bin(BinOp::Add), &[n]),
         7 => set(alloc, 3, WordOp::Bin(BinOp::Add), &[n, t]),
@@ -217,11 +217,11 @@ fn line(alloc: Global, number: usize) -> Result<Statement, NoMemory> {
             &[TemplateStep::Leaf(0), TemplateStep::Bin(BinOp::Add)],
         ),
         28 => fold(alloc, 2, Join::Sum, &[TemplateStep::Word(n)]),
-        29 => nested(alloc, 128),
+        29 => nested(alloc, repeat(2, ONE, Seq::new(alloc)), 128),
         30 => returned(alloc, &[Back::Word(n)]),
         31 => moved(alloc, 2, n),
         32 => set(alloc, 2, WordOp::Un(UnOp::Pow(62)), &[n]),
-        33 => nested(alloc, 127),
+        33 => nested(alloc, repeat(2, ONE, Seq::new(alloc)), 127),
         34 => fold(
             alloc,
             3,
@@ -229,7 +229,7 @@ fn line(alloc: Global, number: usize) -> Result<Statement, NoMemory> {
             &[TemplateStep::Leaf(0), TemplateStep::Un(UnOp::Test)],
         ),
         35 => nest(alloc, 0, &[TemplateStep::Word(t)]),
-        36 => guarded(alloc, 2, Reg::Word(2)),
+        36 => guarded(alloc, 2, 2, Reg::Word(2)),
         _ => Ok(Statement::Release { view: 2 }),
     }
 }
@@ -338,5 +338,218 @@ fn paths_and_ends(rt: HostRuntime) -> Result<(), Fail> {
             rule: InvalidRule::Register
         })
     );
+    Ok(())
+}
+
+fn branch(cond: Oper, yes: Seq<Statement>, no: Seq<Statement>) -> Statement {
+    Statement::If { cond, yes, no }
+}
+
+fn get(alloc: Global, to: u32, of: u32, index: &[Oper]) -> Result<Statement, NoMemory> {
+    Ok(Statement::Get {
+        to,
+        of,
+        index: list(alloc, index)?,
+        at: AT,
+    })
+}
+
+fn put(alloc: Global, of: u32, index: &[Oper], value: Oper) -> Result<Statement, NoMemory> {
+    Ok(Statement::Put {
+        of,
+        index: list(alloc, index)?,
+        value,
+        at: AT,
+    })
+}
+
+// A nest of as many steps, all but the first of which copy.
+fn long_nest(alloc: Global, steps: usize) -> Result<Statement, NoMemory> {
+    let mut made = Seq::new(alloc);
+    made.push(TemplateStep::Leaf(0))?;
+    for _step in 1..steps {
+        made.push(TemplateStep::Un(UnOp::Copy))?;
+    }
+    nest(alloc, 0, made.as_slice())
+}
+
+// Statements of which each breaks the rule Kind.
+fn kind_line(alloc: Global, number: usize) -> Result<Statement, NoMemory> {
+    let n = Oper::Name(0);
+    let t = Oper::Name(1);
+    match number {
+        0 => Ok(Statement::Extent {
+            to: 3,
+            of: 0,
+            axis: None,
+        }),
+        1 => get(alloc, 3, 0, &[n]),
+        2 => put(alloc, 2, &[n], n),
+        3 => Ok(Statement::Flip { to: 2, of: 0 }),
+        4 => Ok(Statement::Same { to: 2, of: 0 }),
+        5 => Ok(branch(n, Seq::new(alloc), Seq::new(alloc))),
+        6 => guarded(alloc, 3, 2, Reg::Word(2)),
+        7 => nest(
+            alloc,
+            0,
+            &[TemplateStep::Word(t), TemplateStep::Un(UnOp::Inv)],
+        ),
+        _ => nest(
+            alloc,
+            0,
+            &[
+                TemplateStep::Word(n),
+                TemplateStep::Leaf(0),
+                TemplateStep::Leaf(0),
+                TemplateStep::Select,
+            ],
+        ),
+    }
+}
+
+// Statements of which each breaks the rule Rank.
+fn rank_line(alloc: Global, number: usize) -> Result<Statement, NoMemory> {
+    let n = Oper::Name(0);
+    match number {
+        0 => Ok(Statement::Extent {
+            to: 2,
+            of: 0,
+            axis: Some(1),
+        }),
+        1 => get(alloc, 2, 0, &[n, n]),
+        2 => put(alloc, 0, &[], n),
+        3 => Ok(Statement::Flip { to: 3, of: 0 }),
+        4 => Ok(Statement::Same { to: 3, of: 0 }),
+        5 => view_of(alloc, 3, 0, &[CoreSub::Cut(None, None, None)]),
+        6 => nest(alloc, 0, &[TemplateStep::Leaf(3)]),
+        7 => returned(alloc, &[Back::View(0)]),
+        _ => returned(alloc, &[]),
+    }
+}
+
+// Statements of which each breaks the rule Template.
+fn template_line(alloc: Global, number: usize) -> Result<Statement, NoMemory> {
+    match number {
+        0 => nest(alloc, 0, &[]),
+        1 => nest(
+            alloc,
+            0,
+            &[TemplateStep::Leaf(0), TemplateStep::Un(UnOp::Pow(63))],
+        ),
+        2 => fold(
+            alloc,
+            2,
+            Join::Sum,
+            &[TemplateStep::Leaf(0), TemplateStep::Leaf(0)],
+        ),
+        3 => nest(alloc, 0, &[TemplateStep::Leaf(0), TemplateStep::Select]),
+        _ => long_nest(alloc, 65),
+    }
+}
+
+#[test]
+fn other_lines_of_each_rule(rt: HostRuntime) -> Result<(), Fail> {
+    let alloc = rt.alloc();
+    for number in 0..9 {
+        assert_eq!(rt; found(alloc, kind_line(alloc, number)?)?, want(&KIND));
+        assert_eq!(rt; found(alloc, rank_line(alloc, number)?)?, want(&RANK));
+    }
+    for number in 0..5 {
+        assert_eq!(rt;
+            found(alloc, template_line(alloc, number)?)?,
+            want(&TEMPLATE)
+        );
+    }
+    assert_eq!(rt; found(alloc, long_nest(alloc, 64)?)?, Ok(()));
+    // A loop's ends are read before its turns.
+    assert_eq!(rt;
+        found(alloc, repeat(2, Oper::Name(2), Seq::new(alloc)))?,
+        want(&UNASSIGNED)
+    );
+    // An If inside 128 loops, and a parallel loop.
+    let part = branch(Oper::Name(1), Seq::new(alloc), Seq::new(alloc));
+    assert_eq!(rt; found(alloc, nested(alloc, part, 128)?)?, want(&NESTING));
+    let turns = guarded(alloc, 2, 2, Reg::Word(2))?;
+    assert_eq!(rt; found(alloc, nested(alloc, turns, 128)?)?, want(&NESTING));
+    // The last statement is no Return; a part in tail position is empty.
+    let last = one(alloc, moved(alloc, 2, ONE)?)?;
+    assert_eq!(rt; found_in(alloc, last)?, want(&RETURN));
+    let yes = one(alloc, returned(alloc, &[Back::Word(Oper::Name(0))])?)?;
+    let ends = one(alloc, branch(Oper::Name(1), yes, Seq::new(alloc)))?;
+    assert_eq!(rt; found_in(alloc, ends)?, want(&RETURN));
+    Ok(())
+}
+
+fn alone(alloc: Global, kernel: Kernel) -> Result<Result<(), CheckStop>, NoMemory> {
+    let mut kernels = Seq::new(alloc);
+    kernels.push(kernel)?;
+    Ok(check(&LoopProgram { kernels }, alloc))
+}
+
+fn sound_kernel(alloc: Global) -> Result<Kernel, NoMemory> {
+    kernel_of(
+        alloc,
+        one(alloc, returned(alloc, &[Back::Word(Oper::Name(0))])?)?,
+    )
+}
+
+#[test]
+fn lines_of_a_kernels_own(rt: HostRuntime) -> Result<(), Fail> {
+    let alloc = rt.alloc();
+    assert_eq!(rt; alone(alloc, sound_kernel(alloc)?)?, Ok(()));
+    // A parameter without a register, and one whose register has another kind.
+    let mut kernel = sound_kernel(alloc)?;
+    kernel.regs = list(alloc, &[Kind::Int64])?;
+    assert_eq!(rt; alone(alloc, kernel)?, want(&REGISTER));
+    let mut kernel = sound_kernel(alloc)?;
+    kernel.regs = list(alloc, &[Kind::Int64, Kind::Int64])?;
+    assert_eq!(rt; alone(alloc, kernel)?, want(&KIND));
+    let mut kernel = sound_kernel(alloc)?;
+    kernel.views = list(alloc, &[(Kind::Bool, 1)])?;
+    assert_eq!(rt; alone(alloc, kernel)?, want(&KIND));
+    // An array parameter of another rank than its register, a view of 5 dimensions and one of none, and a value of 5.
+    let mut kernel = sound_kernel(alloc)?;
+    kernel.views = list(alloc, &[(Kind::Int64, 2)])?;
+    assert_eq!(rt; alone(alloc, kernel)?, want(&RANK));
+    let mut kernel = sound_kernel(alloc)?;
+    kernel.views = list(alloc, &[(Kind::Int64, 1), (Kind::Int64, 5)])?;
+    assert_eq!(rt; alone(alloc, kernel)?, want(&RANK));
+    let mut kernel = sound_kernel(alloc)?;
+    kernel.views = list(alloc, &[(Kind::Int64, 1), (Kind::Int64, 0)])?;
+    assert_eq!(rt; alone(alloc, kernel)?, want(&RANK));
+    let mut kernel = sound_kernel(alloc)?;
+    kernel.rets = list(alloc, &[(Kind::Int64, 5)])?;
+    assert_eq!(rt; alone(alloc, kernel)?, want(&RANK));
+    Ok(())
+}
+
+#[test]
+fn many_registers_and_parts(rt: HostRuntime) -> Result<(), Fail> {
+    let alloc = rt.alloc();
+    let mut body = Seq::new(alloc);
+    for number in 4..10_004 {
+        let yes = one(alloc, moved(alloc, number, ONE)?)?;
+        let no = one(alloc, moved(alloc, number, ONE)?)?;
+        body.push(branch(Oper::Name(1), yes, no))?;
+    }
+    body.push(returned(alloc, &[Back::Word(Oper::Name(10_003))])?)?;
+    let mut kernel = kernel_of(alloc, body)?;
+    for _register in 0..20_000 {
+        kernel.regs.push(Kind::Int64)?;
+    }
+    assert_eq!(rt; alone(alloc, kernel)?, Ok(()));
+    Ok(())
+}
+
+#[test]
+fn many_kernels(rt: HostRuntime) -> Result<(), Fail> {
+    let alloc = rt.alloc();
+    let mut kernels = Seq::new(alloc);
+    for number in 0..5_000u32 {
+        let mut kernel = sound_kernel(alloc)?;
+        kernel.name = list(alloc, &number.to_le_bytes())?;
+        kernels.push(kernel)?;
+    }
+    assert_eq!(rt; check(&LoopProgram { kernels }, alloc), Ok(()));
     Ok(())
 }
