@@ -11,7 +11,7 @@ use Rattle.array_types.specs.Find.{find, given_by}
 abbrev Numbered : Type 0
 Numbered = List (List ℕ × ℕ)
 
-abbrev or_later : Option ℕ → Option ℕ → Option ℕ
+abbrev pub or_later : Option ℕ → Option ℕ → Option ℕ
 or_later (Some x) later = Some x
 or_later None later = later
 
@@ -27,11 +27,11 @@ find_append q (e ∷ xs) text n =
     ap (given_by (bytes_eq e.0 q) e.1) (find_append q xs text n)
     ∙ later_given (bytes_eq e.0 q) e.1 (find q xs) (given_by (bytes_eq text q) n None)
 
-or_nothing : (o : Option ℕ) → or_later o None ≡ o
+pub or_nothing : (o : Option ℕ) → or_later o None ≡ o
 or_nothing None = refl
 or_nothing (Some x) = refl
 
-or_some : (o later : Option ℕ) → is_some o ≡ true → or_later o later ≡ o
+pub or_some : (o later : Option ℕ) → is_some o ≡ true → or_later o later ≡ o
 or_some None later h = absurd (let e : false ≡ true = h in cc)
 or_some (Some x) later h = refl
 
@@ -66,7 +66,7 @@ given_cond : (b : Bool) (n : ℕ) → cond b (Some n) None ≡ given_by b n None
 given_cond true n = refl
 given_cond false n = refl
 
-lookup_append : (es : List (Vec ℕ × ℕ)) (key : Vec ℕ) (n : ℕ) (q : List ℕ) →
+pub lookup_append : (es : List (Vec ℕ × ℕ)) (key : Vec ℕ) (n : ℕ) (q : List ℕ) →
     lookup (λ k. bytes_eq q k.items) (es ++ (key, n) ∷ []) ≡
     or_later (lookup (λ k. bytes_eq q k.items) es) (cond (bytes_eq q key.items) (Some n) None)
 lookup_append [] key n q = refl

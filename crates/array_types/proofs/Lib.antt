@@ -3,3 +3,4 @@ pub mod Equations
 pub mod Weights
 pub mod Checks
 pub mod Indexing
+pub mod Calls

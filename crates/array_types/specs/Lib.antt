@@ -4,6 +4,7 @@ pub mod Walk
 pub mod Checked
 pub mod Forms
 pub mod Shapes
+pub mod Keys
 pub mod Modules
 pub mod Weights
 pub mod Settle

@@ -12,12 +12,13 @@ use Rattle.krn_base.specs.declared.refusal.Rule.TheVariants.{Types, Name, Recurs
 use Rattle.krn_base.specs.declared.refusal.Stop.{Stop}
 use Rattle.krn_base.specs.declared.refusal.Stop.TheVariants as stop
 use Rattle.eager_rules.specs.Sound.{shape_of_body, returns_values}
-use Rattle.eager_rules.specs.Types.{Ty, same_types, type_of_param}
+use Rattle.eager_rules.specs.Types.{Ty, type_of_param}
 use Rattle.eager_rules.specs.declared.program.Instance.{Instance}
 use Rattle.eager_rules.specs.declared.program.Program.{Program}
 use Rattle.module_terms.specs.declared.term.Routine.{Routine}
 use Rattle.py_parse.specs.declared.tree.Name.{Name as Named}
 use Rattle.array_types.specs.Forms.{Given, Calls, block}
+pub use Rattle.array_types.specs.Keys.{instance_for}
 use Rattle.array_types.specs.Settle.{numbers_from, settled_block}
 use Rattle.array_types.specs.Walk.{Nothing, Outcome, Walk, and_then, ◌>>=◌, ◌>>◌, pure, refuse, test, find}
 use Rattle.array_types.specs.declared.state.Key.{Key}
@@ -37,23 +38,6 @@ abbrev pub functions : List Routine → List (List ℕ × ℕ)
 functions routines = numbered (map (λ r. r.name) routines)
 
 -- ---- instances
-
--- the place of the first instance for the calls of a function with arguments of these types
-abbrev pub is_call : ℕ → List Ty → Key → Bool
-is_call function types Kernel = false
-is_call function types (Called other others) = (other == function) && same_types others types
-
-abbrev pub chosen : Bool → ℕ → Option ℕ → Option ℕ
-chosen true n later = Some n
-chosen false n later = later
-
-abbrev pub instance_from : ℕ → ℕ → List Ty → List Key → Option ℕ
-instance_from n function types [] = None
-instance_from n function types (key ∷ keys) =
-    chosen (is_call function types key) n (instance_from (n + 1) function types keys)
-
-abbrev pub instance_for : ℕ → List Ty → List Key → Option ℕ
-instance_for = instance_from 0
 
 -- a parameter of a called instance
 abbrev pub strided : Ty → ParamType

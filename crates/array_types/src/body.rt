@@ -506,7 +506,7 @@ fn call(
             })),
             Some(routine) => {
                 test(types.len() == routine.params.len(), at, state)?;
-                match instances::instance_for(function, types.as_slice(), state.keys.as_slice())? {
+                match state.keys.get(alloc, function, types.as_slice())? {
                     Some(n) => instances::given(n, at, state),
                     None => {
                         if depth == 0 {

@@ -6,8 +6,8 @@ ghost use Rattle.std.specs.List.{zip};
 ghost use Rattle.array_types.specs.Modules as spec;
 ghost use Rattle.array_types.specs.Walk.{Walks};
 
+use crate::keys::Keys;
 use crate::known::Known;
-use crate::rows::same_types;
 use crate::settle;
 use crate::shape::ends_well;
 use crate::state::{Key, State, Ty};
@@ -17,30 +17,6 @@ use module_terms::Routine;
 use py_parse::Name;
 use std::alloc::Global;
 use std::mem;
-
-fn is_call(function: u32, types: &[Ty], key: &Key) -> bool
-    ensures { result ≡ spec.is_call function types.now key.now }
-{
-    match key {
-        Key::Kernel => false,
-        Key::Called(other, others) => *other == function && same_types(others.as_slice(), types),
-    }
-}
-
-/// The number of the instance for the calls of a function with arguments of these types.
-pub fn instance_for(function: u32, types: &[Ty], keys: &[Key]) -> Result<Option<u32>, NoMemory>
-    ensures { IfOk result (λ n. n ≡ spec.instance_for function types.now keys.now) }
-{
-    if keys.len() > u32::MAX as usize {
-        return Err(NoMemory);
-    }
-    for k in 0..keys.len() {
-        if is_call(function, types, &keys[k]) {
-            return Ok(Some(k as u32));
-        }
-    }
-    Ok(None)
-}
 
 /// What a call of an instance that was met before gives. One whose body is still being walked has no types yet.
 pub fn given(n: u32, at: Loc, state: &State) -> Result<(u32, Seq<Ty>), Stop>
@@ -140,8 +116,8 @@ pub fn begin(
 {
     let types = types_of_params(alloc, params)?;
     let known = numbered(alloc, routine.params.as_slice())?;
-    let mut keys = mem::replace(&mut state.keys, Seq::new(alloc));
-    keys.push(key)?;
+    let met = mem::replace(&mut state.keys, Keys::new(alloc));
+    let keys = met.with(alloc, key)?;
     let mut instances = mem::replace(&mut state.instances, Seq::new(alloc));
     instances.push(None)?;
     Ok(State {

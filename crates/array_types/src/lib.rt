@@ -7,6 +7,7 @@ mod checked;
 mod cores;
 mod fitting;
 mod instances;
+mod keys;
 mod known;
 mod modules;
 mod rows;
@@ -18,6 +19,7 @@ mod steps;
 mod tests;
 mod walk;
 
+pub use keys::Keys;
 pub use known::Known;
 pub use modules::typed_terms;
 pub use state::{Key, Range, Signature, State, Target, Ty, Value};

@@ -8,6 +8,7 @@ ghost use Rattle.array_types.specs.Walk.{Walks};
 use crate::body::enter;
 use crate::checked::is_checked;
 use crate::instances::{functions, type_of_param};
+use crate::keys::Keys;
 use crate::known::Known;
 use crate::state::{Key, Signature, State};
 use eager_rules::{Instance, Program};
@@ -114,7 +115,7 @@ fn start(alloc: Global) -> State
     ensures { result ≡ spec.start }
 {
     State {
-        keys: Seq::new(alloc),
+        keys: Keys::new(alloc),
         instances: Seq::new(alloc),
         types: Seq::new(alloc),
         known: Known::new(alloc),
@@ -137,8 +138,8 @@ fn start(alloc: Global) -> State
 /// The program is well typed, and no chain of its calls leads from an instance back to it.
 ///
 /// Cost: an instance takes one walk through its function's body, which is linear in the body's terms, and its core is
-/// linear in them too. Names and functions are found by an index. A call compares its types with those of the
-/// instances met so far. The finished program is tested once, and its calls once for each level of calls.
+/// linear in them too. Names, functions and the instance for a call are found by an index. The finished program is
+/// tested once, and its calls once for each level of calls.
 pub fn typed_terms(
     alloc: Global,
     routines: &[Routine],

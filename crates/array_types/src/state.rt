@@ -1,4 +1,5 @@
 // What a walk through a module has made so far.
+use crate::keys::Keys;
 use crate::known::Known;
 use eager_rules::{Core, Instance, Oper};
 use krn_base::{Kind, Loc, ParamType, Seq, Text};
@@ -34,7 +35,7 @@ pub enum Key {
 /// Instances in the order in which they are met, and the body that is being walked.
 #[derive(Drop)]
 pub struct State {
-    pub keys: Seq<Key>,
+    pub keys: Keys,
     /// One for each key, once its body has been walked.
     pub instances: Seq<Option<Instance>>,
     /// The types of the body's names, by their numbers.
