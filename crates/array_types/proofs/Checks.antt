@@ -62,7 +62,7 @@ gathered : (xs : List Core) → flat_map (λ calls. calls) (map (fold-Core (List
 gathered [] = refl
 gathered (x ∷ xs) = ap (λ (rest : List ℕ). fold-Core (List ℕ) calls_step x ++ rest) (gathered xs)
 
-flat_more : (xs ys : List (List ℕ)) → flat_map (λ calls. calls) (xs ++ ys) ≡
+pub flat_more : (xs ys : List (List ℕ)) → flat_map (λ calls. calls) (xs ++ ys) ≡
     flat_map (λ calls. calls) xs ++ flat_map (λ calls. calls) ys
 flat_more [] ys = refl
 flat_more (x ∷ xs) ys =
@@ -93,7 +93,7 @@ each test P shows [] h = tt
 each test P shows (x ∷ xs) h =
     (shows x (left (test x) (list_all test xs) h), each test P shows xs (right (test x) (list_all test xs) h))
 
-all_of : {A : Type 0} (test : A → Bool) (P : A → Type 0) → ((x : A) → test x ≡ true → P x) → (xs : List A) →
+pub all_of : {A : Type 0} (test : A → Bool) (P : A → Type 0) → ((x : A) → test x ≡ true → P x) → (xs : List A) →
     list_all test xs ≡ true → All P xs
 all_of test P shows xs h = All-from_recursion P xs (each test P shows xs h)
 

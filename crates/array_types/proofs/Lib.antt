@@ -4,3 +4,4 @@ pub mod Weights
 pub mod Checks
 pub mod Indexing
 pub mod Calls
+pub mod Bindings

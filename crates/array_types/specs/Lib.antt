@@ -8,3 +8,4 @@ pub mod Keys
 pub mod Modules
 pub mod Weights
 pub mod Settle
+pub mod Numbering

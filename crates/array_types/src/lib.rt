@@ -10,6 +10,7 @@ mod instances;
 mod keys;
 mod known;
 mod modules;
+mod numbering;
 mod rows;
 mod settle;
 mod shape;

@@ -2,6 +2,7 @@
 ghost use Rattle.std.specs.Prelude.{◌≡◌, ◌++◌, [], IfOk, OnOk, option_to_list};
 ghost use Rattle.std.specs.List.{list_all};
 ghost use Rattle.array_types.specs.Modules as spec;
+ghost use Rattle.array_types.specs.Numbering.{AreNumbered};
 ghost use Rattle.eager_rules.specs.Sound.{IsTyped};
 ghost use Rattle.array_types.specs.Walk.{Walks};
 
@@ -10,6 +11,7 @@ use crate::checked::is_checked;
 use crate::instances::{functions, type_of_param};
 use crate::keys::Keys;
 use crate::known::Known;
+use crate::numbering::are_numbered;
 use crate::state::{Key, Signature, State};
 use eager_rules::{Instance, Program};
 use krn_base::{NoMemory, ParamType, Refusal, Rule, Seq, Stop};
@@ -135,7 +137,8 @@ fn start(alloc: Global) -> State
 /// call deeper than 33, or of a function that is still being walked, as `Recursion`; a name without a type as `Name`,
 /// each at the name.
 ///
-/// The program is well typed, and no chain of its calls leads from an instance back to it.
+/// The program is well typed, and no chain of its calls leads from an instance back to it. An instance's parameters are
+/// its first names, and each other name has the next number at the statement that first binds it.
 ///
 /// Cost: an instance takes one walk through its function's body, which is linear in the body's terms, and its core is
 /// linear in them too. Names, functions and the instance for a call are found by an index. The finished program is
@@ -147,6 +150,7 @@ pub fn typed_terms(
 ) -> Result<Program, Stop>
     ensures program { spec.IsProgramOf routines.now signatures.now result }
     ensures typed { IfOk result IsTyped }
+    ensures numbered { IfOk result AreNumbered }
 {
     let names = functions(alloc, routines)?;
     let mut state = start(alloc);
@@ -163,7 +167,7 @@ pub fn typed_terms(
     } = state;
     let instances = complete(alloc, instances)?;
     let program = Program { instances, kernels };
-    if is_checked(alloc, &program)? {
+    if is_checked(alloc, &program)? && are_numbered(alloc, &program)? {
         Ok(program)
     } else {
         Err(Stop::Memory)
