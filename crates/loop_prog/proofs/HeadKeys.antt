@@ -71,7 +71,8 @@ keys_differ_too (Scalar k) types n m = refl
 keys_differ_too (Flat k r) types n m = refl
 keys_differ_too (Strided k r) types n m = refl
 
-keys_same : (ts us : List ParamType) (n m : List ℕ) → bytes_eq (key ts n) (key us m) ≡ (bytes_eq n m && same_params ts us)
+keys_same : (ts us : List ParamType) (n m : List ℕ) →
+    bytes_eq (key ts n) (key us m) ≡ (bytes_eq n m && same_params ts us)
 keys_same [] [] n m = and_true (bytes_eq n m)
 keys_same [] (u ∷ us) n m = keys_differ u us n m ∙ and_false (bytes_eq n m)
 keys_same (t ∷ ts) [] n m = keys_differ_too t ts n m ∙ and_false (bytes_eq n m)
