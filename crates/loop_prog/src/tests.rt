@@ -248,6 +248,8 @@ const NESTING: Option<(u32, InvalidRule)> = Some((128, InvalidRule::Nesting));
 
 const RETURN: Option<(u32, InvalidRule)> = Some((0, InvalidRule::Return));
 
+const RETURN_IN_LOOP: Option<(u32, InvalidRule)> = Some((1, InvalidRule::Return));
+
 static WANTED: [Option<(u32, InvalidRule)>; 38] = [
     REGISTER, REGISTER, REGISTER, REGISTER, REGISTER, KIND, KIND, KIND, KIND, KIND, KIND, KIND,
     KIND, KIND, KIND, KIND, RANK, RANK, RANK, RANK, RANK, RANK, UNASSIGNED, UNASSIGNED, UNASSIGNED,
@@ -471,12 +473,26 @@ fn other_lines_of_each_rule(rt: HostRuntime) -> Result<(), Fail> {
     assert_eq!(rt; found(alloc, nested(alloc, part, 128)?)?, want(&NESTING));
     let turns = guarded(alloc, 2, 2, Reg::Word(2))?;
     assert_eq!(rt; found(alloc, nested(alloc, turns, 128)?)?, want(&NESTING));
+    Ok(())
+}
+
+#[test]
+fn places_of_returns(rt: HostRuntime) -> Result<(), Fail> {
+    let alloc = rt.alloc();
     // The last statement is no Return; a part in tail position is empty.
     let last = one(alloc, moved(alloc, 2, ONE)?)?;
     assert_eq!(rt; found_in(alloc, last)?, want(&RETURN));
     let yes = one(alloc, returned(alloc, &[Back::Word(Oper::Name(0))])?)?;
     let ends = one(alloc, branch(Oper::Name(1), yes, Seq::new(alloc)))?;
     assert_eq!(rt; found_in(alloc, ends)?, want(&RETURN));
+    // A Return inside a loop, and one before the end of its block.
+    let inside = one(alloc, returned(alloc, &[Back::Word(Oper::Name(0))])?)?;
+    assert_eq!(rt;
+        found(alloc, repeat(2, ONE, inside))?,
+        want(&RETURN_IN_LOOP)
+    );
+    let early = returned(alloc, &[Back::Word(Oper::Name(0))])?;
+    assert_eq!(rt; found(alloc, early)?, want(&RETURN));
     Ok(())
 }
 
@@ -551,5 +567,48 @@ fn many_kernels(rt: HostRuntime) -> Result<(), Fail> {
         kernels.push(kernel)?;
     }
     assert_eq!(rt; check(&LoopProgram { kernels }, alloc), Ok(()));
+    Ok(())
+}
+
+// A kernel that returns nothing, whose 13 scalar parameters have the kinds of a number's bits.
+fn kernel_by_bits(alloc: Global, number: u32) -> Result<Kernel, NoMemory> {
+    let mut params = Seq::new(alloc);
+    let mut regs = Seq::new(alloc);
+    let mut left = number;
+    for _bit in 0..13 {
+        let kind = if left % 2 == 1 {
+            Kind::Bool
+        } else {
+            Kind::Int64
+        };
+        params.push((list(alloc, b"a")?, ParamType::Scalar(kind)))?;
+        regs.push(kind)?;
+        left /= 2;
+    }
+    Ok(Kernel {
+        name: list(alloc, b"k")?,
+        params,
+        regs,
+        views: Seq::new(alloc),
+        rets: Seq::new(alloc),
+        body: one(alloc, returned(alloc, &[])?)?,
+    })
+}
+
+#[test]
+fn many_kernels_of_one_name(rt: HostRuntime) -> Result<(), Fail> {
+    let alloc = rt.alloc();
+    let mut kernels = Seq::new(alloc);
+    for number in 0..5_000 {
+        kernels.push(kernel_by_bits(alloc, number)?)?;
+    }
+    let mut program = LoopProgram { kernels };
+    assert_eq!(rt; check(&program, alloc), Ok(()));
+    // One of the heads once more.
+    program.kernels.push(kernel_by_bits(alloc, 4_321)?)?;
+    assert_eq!(rt;
+        check(&program, alloc),
+        want(&Some((5_000, InvalidRule::Register)))
+    );
     Ok(())
 }
