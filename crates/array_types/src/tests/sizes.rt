@@ -37,6 +37,33 @@ fn many_functions_are_walked(rt: HostRuntime) -> Result<(), Fail> {
     Ok(())
 }
 
+// Arguments of a call, ints and bools by the binary digits of a number.
+fn arguments(alloc: Global, number: u32) -> Result<String, AllocError> {
+    let mut out = String::new(alloc);
+    let mut left = number;
+    for _ in 0..9 {
+        out.push_str(if left % 2 == 0 { "1, " } else { "True, " })?;
+        left /= 2;
+    }
+    out.push_str(if left % 2 == 0 { "1" } else { "True" })?;
+    Ok(out)
+}
+
+#[test]
+fn each_list_of_types_has_an_instance(rt: HostRuntime) -> Result<(), Fail> {
+    let alloc = rt.alloc();
+    let mut body = String::new(alloc);
+    for n in 0..2048u32 {
+        let arguments = arguments(alloc, n % 1024)?;
+        write!(&mut body, " g({})\n", arguments.as_str())?;
+    }
+    let function = "def g(a, b, c, d, e, f, h, i, j, k):\n return a\n";
+    let source = with_kernel(alloc, function, body.as_str())?;
+    let program = program_of(alloc, source.as_bytes())?;
+    assert_eq!(rt; program.instances.len(), 1025);
+    Ok(())
+}
+
 // One expression of many operators, one of many attributes, and subscripts of subscripts.
 fn long_lines(alloc: Global) -> Result<String, AllocError> {
     let mut source = String::new(alloc);
