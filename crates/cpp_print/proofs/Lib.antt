@@ -1,2 +1,4 @@
+mod CheckedTexts
 mod Counts
+mod Layers
 mod Trees

@@ -68,7 +68,8 @@ before_tree (Select m t u) o text =
 -- the steps of what has grown are those that there were, and the new ones
 grown_by : (s : TemplateStep) (steps : List TemplateStep) (trees more : List Tree) (found : Option (List Tree)) →
     ((others : List Tree) → grown steps others ≡ Some more → joined more ≡ joined others ++ steps) →
-    with_step s trees ≡ found → option_and_then (grown steps) found ≡ Some more → joined more ≡ joined trees ++ s ∷ steps
+    with_step s trees ≡ found → option_and_then (grown steps) found ≡ Some more →
+    joined more ≡ joined trees ++ s ∷ steps
 grown_by s steps trees more None again step is = absurd cc
 grown_by s steps trees more (Some others) again step is =
     again others is ∙ rw (joined_step s trees others step) (append_assoc (joined trees) (s ∷ []) steps)

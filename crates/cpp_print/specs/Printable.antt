@@ -9,7 +9,7 @@ use Rattle.std.specs.List.{list_all}
 use Rattle.krn_base.specs.declared.kind.Kind.{Kind}
 use Rattle.krn_base.specs.declared.kind.ParamType.{ParamType}
 use Rattle.krn_base.specs.declared.kind.ParamType.TheVariants.{Scalar, Flat, Strided}
-use Rattle.eager_rules.specs.Types.{same_kind}
+use Rattle.eager_rules.specs.Types.{same_kind, same_type}
 use Rattle.loop_prog.specs.Serial.{types_of_params}
 use Rattle.loop_prog.specs.declared.program.Kernel.{Kernel}
 use Rattle.loop_prog.specs.declared.program.LoopProgram.{LoopProgram}
@@ -72,14 +72,11 @@ array_type (Scalar kind) = None
 array_type (Flat kind n) = Some (kind, n)
 array_type (Strided kind n) = Some (kind, n)
 
-abbrev pub same_type : Kind × ℕ → Kind × ℕ → Bool
-same_type a b = same_kind a.0 b.0 && a.1 == b.1
-
 -- the array parameters' kinds and ranks are those of the first view registers
 abbrev pub begins_with : List (Kind × ℕ) → List (Kind × ℕ) → Bool
 begins_with [] views = true
 begins_with (t ∷ types) [] = false
-begins_with (t ∷ types) (v ∷ views) = same_type t v && begins_with types views
+begins_with (t ∷ types) (v ∷ views) = same_type v t && begins_with types views
 
 abbrev pub views_fit : List ParamType → List (Kind × ℕ) → Bool
 views_fit types views = begins_with (filter_map array_type types) views
@@ -87,7 +84,7 @@ views_fit types views = begins_with (filter_map array_type types) views
 -- the scalar parameters' kinds are those of the first scalar registers
 abbrev pub words_fit : List ParamType → List Kind → Bool
 words_fit [] words = true
-words_fit (Scalar kind ∷ types) (k ∷ words) = same_kind kind k && words_fit types words
+words_fit (Scalar kind ∷ types) (k ∷ words) = same_kind k kind && words_fit types words
 words_fit (Scalar kind ∷ types) [] = false
 words_fit (_ ∷ types) words = words_fit types words
 

@@ -21,6 +21,7 @@ impl Model for Front {
 }
 
 impl Front {
+    /// No bytes. Takes no memory.
     pub fn new(alloc: Global) -> Front
         ensures { result ≡ [] }
     {

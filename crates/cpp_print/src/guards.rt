@@ -7,6 +7,7 @@ use crate::words::{Part, put_behind, put_listed, put_opening, put_view_reg, put_
 use krn_base::NoMemory;
 use loop_prog::{Axis, Dims, Form, Guard, GuardPart, Symbol};
 
+/// Writes the extent of a view's dimension.
 pub fn put_extent(out: &mut Output, view: u32, axis: u8) -> Result<(), NoMemory>
     ensures { OnOk result (out.new ≡ out.old ++ spec.extent_text view axis) }
 {

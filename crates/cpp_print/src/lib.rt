@@ -4,6 +4,7 @@
 mod blocks;
 mod front;
 mod guards;
+mod laws;
 mod names;
 mod names_fit;
 mod output;
@@ -15,6 +16,7 @@ mod statements;
 mod template;
 mod words;
 
+pub use laws::checked_is_printable;
 pub use printable::is_printable;
 pub use printing::print;
 

@@ -5,6 +5,7 @@ ghost use Rattle.cpp_print.specs.Words as spec;
 use eager_rules::WordOp;
 use krn_base::{BinOp, Join, UnOp};
 
+/// The name of an operation on two words.
 pub fn bin_name(op: BinOp) -> &'static [u8]
     ensures { result.now ≡ spec.bin_name op }
 {
@@ -30,6 +31,7 @@ pub fn bin_name(op: BinOp) -> &'static [u8]
     }
 }
 
+/// The name of an operation on one word.
 pub fn un_name(op: UnOp) -> &'static [u8]
     ensures { result.now ≡ spec.un_name op }
 {
@@ -44,6 +46,7 @@ pub fn un_name(op: UnOp) -> &'static [u8]
     }
 }
 
+/// The name of an operation on scalars, or of a move.
 pub fn word_op_name(op: WordOp) -> &'static [u8]
     ensures { result.now ≡ spec.word_op_name op }
 {

@@ -89,7 +89,7 @@ fn views_fit(params: &[(Text, ParamType)], views: &[(Kind, u8)]) -> bool
             let [(k, n), others @ ..] = free else {
                 return false;
             };
-            if !same_kind(kind, *k) || rank != *n {
+            if !same_kind(*k, kind) || *n != rank {
                 return false;
             }
             free = others;
@@ -110,7 +110,7 @@ fn words_fit(params: &[(Text, ParamType)], words: &[Kind]) -> bool
             let [k, others @ ..] = free else {
                 return false;
             };
-            if !same_kind(kind, *k) {
+            if !same_kind(*k, kind) {
                 return false;
             }
             free = others;

@@ -23,6 +23,7 @@ impl Model for Output {
 }
 
 impl Output {
+    /// No bytes. Takes no memory.
     pub fn new(alloc: Global) -> Output
         ensures { result ≡ [] }
     {

@@ -38,6 +38,7 @@ pub fn put_method(out: &mut Output, of: u32, name: &[u8], at: Loc) -> Result<(),
     put_at(out, at)
 }
 
+/// Writes the scalar register that a statement binds.
 #[tactic(auto, unfolding(crate::specs::Statements::bound_word))]
 pub fn put_bound_word(out: &mut Output, to: u32) -> Result<(), NoMemory>
     ensures { OnOk result (out.new ≡ out.old ++ spec.bound_word to) }
@@ -46,6 +47,7 @@ pub fn put_bound_word(out: &mut Output, to: u32) -> Result<(), NoMemory>
     out.put(b" = ")
 }
 
+/// Writes the view register that a statement binds.
 #[tactic(auto, unfolding(crate::specs::Statements::bound_view))]
 pub fn put_bound_view(out: &mut Output, to: u32) -> Result<(), NoMemory>
     ensures { OnOk result (out.new ≡ out.old ++ spec.bound_view to) }
@@ -108,6 +110,7 @@ impl Part for Back {
     }
 }
 
+/// What a new buffer is filled with.
 pub fn fill_name(fill: Fill) -> &'static [u8]
     ensures { result.now ≡ spec.fill_name fill }
 {
@@ -118,6 +121,7 @@ pub fn fill_name(fill: Fill) -> &'static [u8]
     }
 }
 
+/// What is asked of views' shapes.
 pub fn test_name(test: Test) -> &'static [u8]
     ensures { result.now ≡ spec.test_name test }
 {

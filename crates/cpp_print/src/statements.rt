@@ -17,6 +17,7 @@ use eager_rules::{CoreSub, Oper, WordOp};
 use krn_base::{Join, Loc, NoMemory};
 use loop_prog::{Back, Fill, Template, Test};
 
+/// Writes an operation on scalars.
 #[tactic(auto, unfolding(crate::specs::Statements::set_text))]
 pub fn put_set(
     out: &mut Output,
@@ -46,6 +47,7 @@ fn put_size(out: &mut Output, of: u32, axis: Option<u8>) -> Result<(), NoMemory>
     }
 }
 
+/// Writes an extent, or a number of elements.
 #[tactic(auto, unfolding(crate::specs::Statements::extent_line))]
 pub fn put_extent_line(out: &mut Output, to: u32, of: u32, axis: Option<u8>) -> Result<(), NoMemory>
     ensures { OnOk result (out.new ≡ out.old ++ spec.extent_line to of axis) }
@@ -55,6 +57,7 @@ pub fn put_extent_line(out: &mut Output, to: u32, of: u32, axis: Option<u8>) -> 
     out.put(b";\n")
 }
 
+/// Writes the reading of an element.
 #[tactic(auto, unfolding(crate::specs::Statements::get_text))]
 pub fn put_get(out: &mut Output, to: u32, of: u32, index: &[Oper], at: Loc) -> Result<(), NoMemory>
     ensures { OnOk result (out.new ≡ out.old ++ spec.get_text to of index.now at) }
@@ -65,6 +68,7 @@ pub fn put_get(out: &mut Output, to: u32, of: u32, index: &[Oper], at: Loc) -> R
     out.put(b");\n")
 }
 
+/// Writes the writing of an element.
 #[tactic(auto, unfolding(crate::specs::Statements::put_text))]
 pub fn put_put(
     out: &mut Output,
@@ -82,6 +86,7 @@ pub fn put_put(
     out.put(b");\n")
 }
 
+/// Writes a view by subscripts.
 #[tactic(auto, unfolding(crate::specs::Statements::view_of_text))]
 pub fn put_view_of(
     out: &mut Output,
@@ -98,6 +103,7 @@ pub fn put_view_of(
     out.put(b");\n")
 }
 
+/// Writes a view with its dimensions reversed.
 #[tactic(auto, unfolding(crate::specs::Statements::flip_text))]
 pub fn put_flip(out: &mut Output, to: u32, of: u32) -> Result<(), NoMemory>
     ensures { OnOk result (out.new ≡ out.old ++ spec.flip_text to of) }
@@ -107,6 +113,7 @@ pub fn put_flip(out: &mut Output, to: u32, of: u32) -> Result<(), NoMemory>
     out.put(b".flip();\n")
 }
 
+/// Writes the same view in another register.
 #[tactic(auto, unfolding(crate::specs::Statements::same_text))]
 pub fn put_same(out: &mut Output, to: u32, of: u32) -> Result<(), NoMemory>
     ensures { OnOk result (out.new ≡ out.old ++ spec.same_text to of) }
@@ -116,6 +123,7 @@ pub fn put_same(out: &mut Output, to: u32, of: u32) -> Result<(), NoMemory>
     out.put(b";\n")
 }
 
+/// Writes a new buffer by its extents.
 #[tactic(auto, unfolding(crate::specs::Statements::fresh_text))]
 pub fn put_fresh(
     out: &mut Output,
@@ -134,6 +142,7 @@ pub fn put_fresh(
     out.put(b");\n")
 }
 
+/// Writes a new buffer by the shapes of views.
 #[tactic(auto, unfolding(crate::specs::Statements::like_text))]
 pub fn put_like(out: &mut Output, to: u32, views: &[u32], at: Loc) -> Result<(), NoMemory>
     ensures { OnOk result (out.new ≡ out.old ++ spec.like_text to views.now at) }
@@ -144,6 +153,7 @@ pub fn put_like(out: &mut Output, to: u32, views: &[u32], at: Loc) -> Result<(),
     out.put(b");\n")
 }
 
+/// Writes a test of views' shapes.
 #[tactic(auto, unfolding(crate::specs::Statements::check_text))]
 pub fn put_check(out: &mut Output, test: Test, views: &[u32], at: Loc) -> Result<(), NoMemory>
     ensures { OnOk result (out.new ≡ out.old ++ spec.check_text test views.now at) }
@@ -153,6 +163,7 @@ pub fn put_check(out: &mut Output, test: Test, views: &[u32], at: Loc) -> Result
     out.put(b");\n")
 }
 
+/// Writes a nest.
 #[tactic(auto, unfolding(crate::specs::Statements::nest_text))]
 pub fn put_nest(out: &mut Output, to: u32, template: &Template, at: Loc) -> Result<(), NoMemory>
     requires { is_tree (tree_of template.now.steps) ≡ true }
@@ -177,6 +188,7 @@ fn put_fold_call(out: &mut Output, join: Join, at: Loc) -> Result<(), NoMemory>
     put_at(out, at)
 }
 
+/// Writes a fold.
 #[tactic(auto, unfolding(crate::specs::Statements::fold_text))]
 pub fn put_fold(
     out: &mut Output,
@@ -195,6 +207,7 @@ pub fn put_fold(
     out.put(b");\n")
 }
 
+/// Writes that a view register is unassigned.
 #[tactic(auto, unfolding(crate::specs::Statements::release_text))]
 pub fn put_release(out: &mut Output, view: u32) -> Result<(), NoMemory>
     ensures { OnOk result (out.new ≡ out.old ++ spec.release_text view) }
@@ -203,6 +216,7 @@ pub fn put_release(out: &mut Output, view: u32) -> Result<(), NoMemory>
     out.put(b".release();\n")
 }
 
+/// Writes the end of a kernel.
 #[tactic(auto, unfolding(crate::specs::Statements::return_text))]
 pub fn put_return(out: &mut Output, values: &[Back]) -> Result<(), NoMemory>
     ensures { OnOk result (out.new ≡ out.old ++ spec.return_text values.now) }

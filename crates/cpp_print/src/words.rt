@@ -42,6 +42,7 @@ pub fn put_listed<T: Part>(out: &mut Output, parts: &[T]) -> Result<(), NoMemory
     }
 }
 
+/// Writes a scalar register.
 #[tactic(auto, unfolding(crate::specs::Words::word_reg))]
 pub fn put_word_reg(out: &mut Output, number: u32) -> Result<(), NoMemory>
     ensures { OnOk result (out.new ≡ out.old ++ spec.word_reg number) }
@@ -50,6 +51,7 @@ pub fn put_word_reg(out: &mut Output, number: u32) -> Result<(), NoMemory>
     out.number(u64::from(number))
 }
 
+/// Writes a view register.
 #[tactic(auto, unfolding(crate::specs::Words::view_reg))]
 pub fn put_view_reg(out: &mut Output, number: u32) -> Result<(), NoMemory>
     ensures { OnOk result (out.new ≡ out.old ++ spec.view_reg number) }

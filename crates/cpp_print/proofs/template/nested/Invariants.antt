@@ -4,4 +4,5 @@ use Rattle.cpp_print.proofs.template.nested.Given as goal
 
 -- the steps that are left, before what is written, come to what all come to
 abbrev pub invariant-loop-k : goal.invariant-loop-k
-invariant-loop-k l = all_before (take (length l.steps - l.k) l.steps) (l.operands, l.front) ≡ all_before l.steps ([], [])
+invariant-loop-k l =
+    all_before (take (length l.steps - l.k) l.steps) (l.operands, l.front) ≡ all_before l.steps ([], [])
