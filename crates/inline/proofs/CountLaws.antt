@@ -6,7 +6,8 @@ use Rattle.eager_rules.specs.declared.program.Core.TheOpen as c
 use Rattle.eager_rules.specs.declared.program.Core.TheFolds.{fold-Core, map-Core, fold-roll-Core}
 use Rattle.eager_rules.specs.declared.program.Core.TheViews.{roll-Core}
 use Rattle.eager_rules.specs.declared.program.Instance.{Instance}
-use Rattle.inline.specs.Counts.{block_depth, called_step, called_weight, count_at, count_by, depth_step, greatest, total}
+use Rattle.inline.specs.Counts.{block_depth, called_step, called_weight, count_at, count_by, depth_step, greatest}
+use Rattle.inline.specs.Counts.{total}
 use Rattle.inline.specs.declared.counts.Measure.{Measure}
 use Rattle.inline.specs.declared.counts.Measure.TheVariants.{Weight, Depth}
 use Rattle.inline.specs.Tables.{count_in, held, in_table, limit_in, round, rounds}

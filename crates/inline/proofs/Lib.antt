@@ -1,3 +1,5 @@
 pub mod Trees
 pub mod CountLaws
 pub mod LimitLaws
+pub mod FlatLaws
+pub mod Calms

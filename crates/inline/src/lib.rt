@@ -2,7 +2,14 @@
 //! within the limits of their weight and depth.
 #![tactic(auto)]
 
+mod copies;
 mod counts;
+mod flat_form;
+mod idle;
 mod limits;
+mod lower;
+mod moves;
+mod own;
+mod places;
 
-pub use limits::refused;
+pub use flat_form::flatten;

@@ -1,0 +1,29 @@
+-- The flat form by effects, as the functions of the pass make it.
+use Rattle.std.specs.Prelude.{◌≡◌, ℕ, List, Option, Some}
+use Rattle.krn_base.specs.declared.refusal.Refusal.{Refusal}
+use Rattle.krn_base.specs.declared.refusal.Stop.{Stop}
+use Rattle.krn_base.specs.declared.refusal.Stop.TheVariants as stop
+use Rattle.eager_rules.specs.declared.program.Core.{Core}
+use Rattle.eager_rules.specs.declared.program.Core.TheFolds.{fold-Core}
+use Rattle.eager_rules.specs.declared.program.Program.{Program}
+use Rattle.purity.specs.declared.answers.Effects.{Effects}
+use Rattle.inline.specs.Flat.{Inline, Lowering, flat_at, flat_block, flat_step}
+use Rattle.inline.specs.Idle.{calm_in}
+use Rattle.inline.specs.declared.moves.Out.{Out}
+use Rattle.inline.specs.declared.places.Place.{Place}
+
+abbrev pub inline_at : Program → Effects → ℕ → Inline
+inline_at program effects depth = flat_at program.instances (calm_in program effects) depth
+
+abbrev pub core_form : Program → Effects → ℕ → Out → Place → Core → Lowering
+core_form program effects depth out p =
+    fold-Core Lowering (flat_step (calm_in program effects) (inline_at program effects depth) out p)
+
+abbrev pub block_form : Program → Effects → ℕ → Out → Place → List Core → Lowering
+block_form program effects depth out p body =
+    flat_block (calm_in program effects) (inline_at program effects depth) out p body
+
+-- what stands where the flat form is refused; or memory was wanting
+abbrev pub IsStop : Option Refusal → Stop → Type 0
+IsStop refusal (stop.Refused r) = refusal ≡ Some r
+IsStop refusal stop.Memory = Unit {0}
