@@ -11,5 +11,7 @@ mod lower;
 mod moves;
 mod own;
 mod places;
+#[cfg(test)]
+mod tests;
 
 pub use flat_form::flatten;
