@@ -3,3 +3,4 @@ pub mod CountLaws
 pub mod LimitLaws
 pub mod FlatLaws
 pub mod Calms
+pub mod NoCalls

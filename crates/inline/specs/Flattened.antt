@@ -1,8 +1,10 @@
 -- The flat form by effects, as the functions of the pass make it.
-use Rattle.std.specs.Prelude.{◌≡◌, ℕ, List, Option, Some}
+use Rattle.std.specs.Prelude.{◌≡◌, ℕ, List, [], Option, Some}
+use Rattle.std.specs.List.{All}
 use Rattle.krn_base.specs.declared.refusal.Refusal.{Refusal}
 use Rattle.krn_base.specs.declared.refusal.Stop.{Stop}
 use Rattle.krn_base.specs.declared.refusal.Stop.TheVariants as stop
+use Rattle.eager_rules.specs.Statements.{calls_of}
 use Rattle.eager_rules.specs.declared.program.Core.{Core}
 use Rattle.eager_rules.specs.declared.program.Core.TheFolds.{fold-Core}
 use Rattle.eager_rules.specs.declared.program.Program.{Program}
@@ -27,3 +29,7 @@ block_form program effects depth out p body =
 abbrev pub IsStop : Option Refusal → Stop → Type 0
 IsStop refusal (stop.Refused r) = refusal ≡ Some r
 IsStop refusal stop.Memory = Unit {0}
+
+-- no instance of a program calls one
+abbrev pub HasNoCalls : Program → Type 0
+HasNoCalls program = All (λ f. calls_of f.body ≡ []) program.instances

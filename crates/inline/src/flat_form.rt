@@ -3,7 +3,7 @@ ghost use Rattle.std.specs.Prelude.{◌≡◌, ◌++◌, IfErr, IfOk, None, OnOk
 ghost use Rattle.std.specs.List.{range_with_len};
 ghost use Rattle.purity.specs.Answers.{AreEffects};
 ghost use Rattle.inline.specs.Flat as spec;
-ghost use Rattle.inline.specs.Flattened.{IsStop};
+ghost use Rattle.inline.specs.Flattened.{HasNoCalls, IsStop};
 ghost use Rattle.inline.specs.Idle.{AreCalm, calm_in};
 ghost use Rattle.inline.specs.Limits.{refusal};
 ghost use Rattle.inline.specs.Places.{home};
@@ -135,6 +135,11 @@ fn program_form(alloc: Global, program: &Program, effects: &Effects) -> Result<P
     Ok(Program { instances, kernels })
 }
 
+/// A flat form has no own call.
+fn flat_has_no_calls(program: &Program, effects: &Effects)
+    ensures { HasNoCalls (spec.flat_program program.now (calm_in program.now effects.now)) }
+{}
+
 /// The calls that are left out are those of instances that write no parameter and can't fault.
 fn calm_are_calm(program: &Program, effects: &Effects)
     requires { AreEffects program.now effects.now }
@@ -159,6 +164,7 @@ pub fn flatten(
 ) -> Result<Program, Stop>
     requires effects { AreEffects program.now effects.now }
     ensures form { IfOk result (λ flat. flat ≡ spec.flat_program program.now (calm_in program.now effects.now)) }
+    ensures flat { IfOk result HasNoCalls }
     ensures left_out { AreCalm program.now.instances (calm_in program.now effects.now) }
     ensures accepted { IfOk result (λ flat. refusal program.now signatures.now ≡ None) }
     ensures refused { IfErr result (IsStop (refusal program.now signatures.now)) }
@@ -167,6 +173,7 @@ pub fn flatten(
     match refused(alloc, program, signatures)? {
         Some(refusal) => Err(Stop::Refused(refusal)),
         None => {
+            flat_has_no_calls(program, effects);
             let flat = program_form(alloc, program, effects)?;
             Ok(flat)
         }
