@@ -1,5 +1,5 @@
 -- The flat form by effects, as the functions of the pass make it.
-use Rattle.std.specs.Prelude.{◌≡◌, ℕ, List, [], Option, Some}
+use Rattle.std.specs.Prelude.{◌≡◌, ℕ, List, [], map, Option, Some}
 use Rattle.std.specs.List.{All}
 use Rattle.krn_base.specs.declared.refusal.Refusal.{Refusal}
 use Rattle.krn_base.specs.declared.refusal.Stop.{Stop}
@@ -7,10 +7,12 @@ use Rattle.krn_base.specs.declared.refusal.Stop.TheVariants as stop
 use Rattle.eager_rules.specs.Statements.{calls_of}
 use Rattle.eager_rules.specs.declared.program.Core.{Core}
 use Rattle.eager_rules.specs.declared.program.Core.TheFolds.{fold-Core}
+use Rattle.eager_rules.specs.declared.program.Oper.{Oper}
 use Rattle.eager_rules.specs.declared.program.Program.{Program}
 use Rattle.purity.specs.declared.answers.Effects.{Effects}
-use Rattle.inline.specs.Flat.{Inline, Lowering, flat_at, flat_block, flat_step}
+use Rattle.inline.specs.Flat.{Inline, Lowering, flat_at, flat_block, flat_if, flat_step}
 use Rattle.inline.specs.Idle.{calm_in}
+use Rattle.inline.specs.Places.{renamed}
 use Rattle.inline.specs.declared.moves.Out.{Out}
 use Rattle.inline.specs.declared.places.Place.{Place}
 
@@ -24,6 +26,11 @@ core_form program effects depth out p =
 abbrev pub block_form : Program → Effects → ℕ → Out → Place → List Core → Lowering
 block_form program effects depth out p body =
     flat_block (calm_in program effects) (inline_at program effects depth) out p body
+
+abbrev pub if_form : Program → Effects → ℕ → Out → Place → Oper → List Core → List Core → Lowering
+if_form program effects depth out p cond part other =
+    flat_if (renamed p cond) (map (core_form program effects depth out p) part)
+    (map (core_form program effects depth out p) other)
 
 -- what stands where the flat form is refused; or memory was wanting
 abbrev pub IsStop : Option Refusal → Stop → Type 0

@@ -55,20 +55,27 @@ abbrev pub renamed_pairs : Place → Option (List (Join × ℕ)) → Option (Lis
 renamed_pairs p None = None
 renamed_pairs p (Some pairs) = Some (map (renamed_pair p) pairs)
 
--- a statement that has no block, calls nothing and returns nothing, by the places of its names
+-- a statement on words and elements, and one on whole arrays, by the places of its names
+abbrev pub copied_word : Place → {A : Type 0} → c.Core-F A → List Core
+copied_word p (c.Word to op args at) = core.Word (placed p to) op (map (renamed p) args) at ∷ []
+copied_word p (c.Extent to of axis) = core.Extent (placed p to) (placed p of) axis ∷ []
+copied_word p (c.Get to of index at) = core.Get (placed p to) (placed p of) (map (renamed p) index) at ∷ []
+copied_word p (c.Put of index value at) = core.Put (placed p of) (map (renamed p) index) (renamed p value) at ∷ []
+copied_word p (c.Reduce to op of at) = core.Reduce (placed p to) op (placed p of) at ∷ []
+copied_word p _ = []
+
+abbrev pub copied_array : Place → {A : Type 0} → c.Core-F A → List Core
+copied_array p (c.Pick to of subs at) = core.Pick (placed p to) (placed p of) (map (renamed_sub p) subs) at ∷ []
+copied_array p (c.Flip to of) = core.Flip (placed p to) (placed p of) ∷ []
+copied_array p (c.Alias to of) = core.Alias (placed p to) (placed p of) ∷ []
+copied_array p (c.Fresh to dims fill at) = core.Fresh (placed p to) (map (renamed p) dims) fill at ∷ []
+copied_array p (c.Map to op args at) = core.Map (placed p to) op (map (renamed p) args) at ∷ []
+copied_array p (c.Store of value at) = core.Store (placed p of) (renamed p value) at ∷ []
+copied_array p _ = []
+
+-- a statement that has no block, calls nothing and returns nothing
 abbrev pub copied : Place → {A : Type 0} → c.Core-F A → List Core
-copied p (c.Word to op args at) = core.Word (placed p to) op (map (renamed p) args) at ∷ []
-copied p (c.Extent to of axis) = core.Extent (placed p to) (placed p of) axis ∷ []
-copied p (c.Get to of index at) = core.Get (placed p to) (placed p of) (map (renamed p) index) at ∷ []
-copied p (c.Put of index value at) = core.Put (placed p of) (map (renamed p) index) (renamed p value) at ∷ []
-copied p (c.Pick to of subs at) = core.Pick (placed p to) (placed p of) (map (renamed_sub p) subs) at ∷ []
-copied p (c.Flip to of) = core.Flip (placed p to) (placed p of) ∷ []
-copied p (c.Alias to of) = core.Alias (placed p to) (placed p of) ∷ []
-copied p (c.Fresh to dims fill at) = core.Fresh (placed p to) (map (renamed p) dims) fill at ∷ []
-copied p (c.Map to op args at) = core.Map (placed p to) op (map (renamed p) args) at ∷ []
-copied p (c.Reduce to op of at) = core.Reduce (placed p to) op (placed p of) at ∷ []
-copied p (c.Store of value at) = core.Store (placed p of) (renamed p value) at ∷ []
-copied p _ = []
+copied p y = copied_word p y ++ copied_array p y
 
 -- ---- values that go to names
 -- names with their types, as far as there are both

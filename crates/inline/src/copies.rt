@@ -1,21 +1,21 @@
 //! Statements by the places of their names.
 ghost use Rattle.std.specs.Prelude.{◌≡◌, ◌++◌, OnOk};
 ghost use Rattle.eager_rules.specs.declared.program.Core.{out-Core};
-ghost use Rattle.inline.specs.Places.{copied};
+ghost use Rattle.inline.specs.Places.{copied, copied_array, copied_word};
 
 use crate::places::{Place, placed, renamed, renamed_all, renamed_subs};
 use eager_rules::Core;
 use krn_base::{NoMemory, Seq};
 use std::alloc::Global;
 
-/// Puts a statement behind others by the places of its names, where it has no block, calls nothing and returns nothing.
-pub fn add_copy(
+/// A copy of a statement on words and elements, and of nothing else.
+fn add_word_copy(
     core: &Core,
     place: Place,
     alloc: Global,
     body: &mut Seq<Core>,
 ) -> Result<(), NoMemory>
-    ensures { OnOk result (body.new ≡ body.old ++ copied place (out-Core core.now)) }
+    ensures { OnOk result (body.new ≡ body.old ++ copied_word place (out-Core core.now)) }
 {
     match core {
         Core::Word { to, op, args, at } => {
@@ -64,6 +64,31 @@ pub fn add_copy(
                 at: *at,
             })?;
         }
+        Core::Reduce { to, op, of, at } => {
+            let to = placed(place, *to)?;
+            let of = placed(place, *of)?;
+            body.push(Core::Reduce {
+                to,
+                op: *op,
+                of,
+                at: *at,
+            })?;
+        }
+        _ => {}
+    }
+    Ok(())
+}
+
+/// A copy of a statement on whole arrays, and of nothing else.
+fn add_array_copy(
+    core: &Core,
+    place: Place,
+    alloc: Global,
+    body: &mut Seq<Core>,
+) -> Result<(), NoMemory>
+    ensures { OnOk result (body.new ≡ body.old ++ copied_array place (out-Core core.now)) }
+{
+    match core {
         Core::Pick { to, of, subs, at } => {
             let to = placed(place, *to)?;
             let of = placed(place, *of)?;
@@ -105,25 +130,26 @@ pub fn add_copy(
                 at: *at,
             })?;
         }
-        Core::Reduce { to, op, of, at } => {
-            let to = placed(place, *to)?;
-            let of = placed(place, *of)?;
-            body.push(Core::Reduce {
-                to,
-                op: *op,
-                of,
-                at: *at,
-            })?;
-        }
         Core::Store { of, value, at } => {
             let of = placed(place, *of)?;
             let value = renamed(place, *value)?;
             body.push(Core::Store { of, value, at: *at })?;
         }
-        Core::Call { .. } => {}
-        Core::If { .. } => {}
-        Core::For { .. } => {}
-        Core::Return { .. } => {}
+        _ => {}
     }
     Ok(())
+}
+
+/// Puts a statement behind others by the places of its names, where it has no block, calls nothing and returns nothing.
+#[tactic(auto, using(std::proofs::lemmas::List::append_assoc))]
+pub fn add_copy(
+    core: &Core,
+    place: Place,
+    alloc: Global,
+    body: &mut Seq<Core>,
+) -> Result<(), NoMemory>
+    ensures { OnOk result (body.new ≡ body.old ++ copied place (out-Core core.now)) }
+{
+    add_word_copy(core, place, alloc, body)?;
+    add_array_copy(core, place, alloc, body)
 }

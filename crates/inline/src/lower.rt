@@ -1,7 +1,8 @@
 //! Bodies with those of called instances in place of the calls.
 ghost use Rattle.std.specs.Prelude.{◌≡◌, ◌++◌, ◌∷◌, [], IfOk, OnOk, length, map, take};
+ghost use Rattle.eager_rules.specs.declared.program.Core.TheVariants as core;
 ghost use Rattle.inline.specs.Flat as spec;
-ghost use Rattle.inline.specs.Flattened.{block_form, core_form, inline_at};
+ghost use Rattle.inline.specs.Flattened.{block_form, core_form, if_form, inline_at};
 ghost use Rattle.inline.specs.Idle.{calm_in};
 ghost use Rattle.inline.specs.Own.{own_of};
 ghost use Rattle.inline.specs.Places as places;
@@ -13,7 +14,7 @@ use crate::moves::{Out, Ty, add_given, add_moves, numbered, targets};
 use crate::own::own_of;
 use crate::places::{Place, place_for, placed, placed_all, renamed, renamed_all, renamed_pairs};
 use eager_rules::{Core, Instance, Oper, Program};
-use krn_base::{NoMemory, Seq};
+use krn_base::{Join, Loc, NoMemory, Seq};
 use purity::Effects;
 use std::alloc::Global;
 
@@ -77,6 +78,68 @@ fn place_of(alloc: Global, f: &Instance, to: &[u32], first: u32) -> Result<Place
 {
     let own = own_of(alloc, f)?;
     Ok(place_for(own, to, first))
+}
+
+/// The head of a loop: its variable, its range and its place.
+#[derive(Clone, Copy)]
+struct Range {
+    var: u32,
+    lo: Oper,
+    hi: Oper,
+    step: Oper,
+    at: Loc,
+}
+
+/// The head of a loop by the places of names.
+fn renamed_range(
+    place: Place,
+    var: u32,
+    lo: Oper,
+    hi: Oper,
+    step: Oper,
+    at: Loc,
+) -> Result<Range, NoMemory>
+    ensures { IfOk result (λ range. range ≡ record {
+      var = places.placed place var;
+      lo = places.renamed place lo;
+      hi = places.renamed place hi;
+      step = places.renamed place step;
+      at = at;
+    }) }
+{
+    let var = placed(place, var)?;
+    let lo = renamed(place, lo)?;
+    let hi = renamed(place, hi)?;
+    let step = renamed(place, step)?;
+    Ok(Range {
+        var,
+        lo,
+        hi,
+        step,
+        at,
+    })
+}
+
+/// A loop by its head.
+fn loop_of(range: Range, omp: Option<Seq<(Join, u32)>>, body: Seq<Core>) -> Core
+    ensures { result ≡ core.For range.var range.lo range.hi range.step range.at omp body }
+{
+    let Range {
+        var,
+        lo,
+        hi,
+        step,
+        at,
+    } = range;
+    Core::For {
+        var,
+        lo,
+        hi,
+        step,
+        at,
+        omp,
+        body,
+    }
 }
 
 /// The statements of a block behind others, their new names behind those that there are.
@@ -161,18 +224,9 @@ fn lower(
             body,
         ),
         Core::If { cond, yes, no } => {
-            let cond = renamed(place, *cond)?;
-            let yes = lower_part(
+            let statement = lower_if(
+                *cond,
                 yes.as_slice(),
-                depth,
-                program,
-                effects,
-                out,
-                place,
-                alloc,
-                names,
-            )?;
-            let no = lower_part(
                 no.as_slice(),
                 depth,
                 program,
@@ -182,7 +236,7 @@ fn lower(
                 alloc,
                 names,
             )?;
-            body.push(Core::If { cond, yes, no })?;
+            body.push(statement)?;
             Ok(())
         }
         Core::For {
@@ -194,10 +248,7 @@ fn lower(
             omp,
             body: inner,
         } => {
-            let var = placed(place, *var)?;
-            let lo = renamed(place, *lo)?;
-            let hi = renamed(place, *hi)?;
-            let step = renamed(place, *step)?;
+            let range = renamed_range(place, *var, *lo, *hi, *step, *at)?;
             let omp = renamed_pairs(alloc, place, omp)?;
             let inner = lower_part(
                 inner.as_slice(),
@@ -209,15 +260,7 @@ fn lower(
                 alloc,
                 names,
             )?;
-            body.push(Core::For {
-                var,
-                lo,
-                hi,
-                step,
-                at: *at,
-                omp,
-                body: inner,
-            })?;
+            body.push(loop_of(range, omp, inner))?;
             Ok(())
         }
         Core::Return { values } => {
@@ -226,6 +269,31 @@ fn lower(
         }
         _ => add_copy(core, place, alloc, body),
     }
+}
+
+/// An `If`: the new names of its second part stand behind those of the first.
+#[cycle(lower)]
+fn lower_if(
+    cond: Oper,
+    yes: &[Core],
+    no: &[Core],
+    depth: usize,
+    program: &Program,
+    effects: &Effects,
+    out: &Out,
+    place: Place,
+    alloc: Global,
+    names: &mut Seq<Ty>,
+) -> Result<Core, NoMemory>
+    ensures statement { IfOk result (λ s. (if_form program.now effects.now depth out.now place cond yes.now no.now
+        (length names.old)).body ≡ s ∷ []) }
+    ensures names { IfOk result (λ s. names.new ≡ names.old ++
+        (if_form program.now effects.now depth out.now place cond yes.now no.now (length names.old)).fresh) }
+{
+    let cond = renamed(place, cond)?;
+    let yes = lower_part(yes, depth, program, effects, out, place, alloc, names)?;
+    let no = lower_part(no, depth, program, effects, out, place, alloc, names)?;
+    Ok(Core::If { cond, yes, no })
 }
 
 /// A call behind other statements, or nothing where it is left out.

@@ -61,6 +61,7 @@ pub fn placed(place: Place, name: u32) -> Result<u32, NoMemory>
     }
 }
 
+/// Where names stand, one after another.
 pub fn placed_all(alloc: Global, place: Place, names: &[u32]) -> Result<Seq<u32>, NoMemory>
     ensures { IfOk result (λ list. list ≡ map (spec.placed place) names.now) }
 {
@@ -71,6 +72,7 @@ pub fn placed_all(alloc: Global, place: Place, names: &[u32]) -> Result<Seq<u32>
     Ok(list)
 }
 
+/// An operand by the places of names.
 pub fn renamed(place: Place, x: Oper) -> Result<Oper, NoMemory>
     ensures { IfOk result (λ y. y ≡ spec.renamed place x) }
 {
@@ -81,6 +83,7 @@ pub fn renamed(place: Place, x: Oper) -> Result<Oper, NoMemory>
     }
 }
 
+/// Operands by the places of names.
 pub fn renamed_all(alloc: Global, place: Place, xs: &[Oper]) -> Result<Seq<Oper>, NoMemory>
     ensures { IfOk result (λ list. list ≡ map (spec.renamed place) xs.now) }
 {
@@ -114,6 +117,7 @@ fn renamed_sub(place: Place, sub: CoreSub) -> Result<CoreSub, NoMemory>
     }
 }
 
+/// Subscripts by the places of names.
 pub fn renamed_subs(alloc: Global, place: Place, subs: &[CoreSub]) -> Result<Seq<CoreSub>, NoMemory>
     ensures { IfOk result (λ list. list ≡ map (spec.renamed_sub place) subs.now) }
 {

@@ -170,8 +170,8 @@ fn flat_of(alloc: Global, functions: &[Function], kernels: &[u32]) -> Result<Pro
     flatten(alloc, &program, notes.as_slice(), &effects)
 }
 
-/// The body of a function, that of the kernel that calls it, and the kernel's flat form. The function's parameters are a
-/// number and an array, and its name 2 is a number; the kernel's names 0 and 1 are numbers, and its name 2 is an array.
+/// The body of a function, that of the kernel that calls it, and the kernel's flat form. The function's parameters are
+/// a number and an array, and its name 2 is a number; the kernel's names 0 and 1 are numbers, and 2 is an array.
 type Bodies = (&'static [Plain], &'static [Plain], &'static [Plain]);
 
 static BODIES: [Bodies; 6] = [

@@ -1,4 +1,4 @@
-use Rattle.std.proofs.Common.{◌≡◌, ◌++◌, ◌+◌, ◌*◌, ℕ, List, drop, length}
+use Rattle.std.proofs.Common.{◌≡◌, ◌++◌, ◌+◌, ◌*◌, ℕ, List, drop, length, max}
 use denote.Param.Weighed.{most}
 use Rattle.eager_rules.specs.declared.program.Core.{size-Core}
 use Rattle.eager_rules.specs.declared.program.Instance.{Instance}
@@ -25,22 +25,26 @@ deepest instances = most body_size instances
 
 -- a call goes one level down, and each function between a statement and its blocks has a rank
 abbrev per_call : List Instance → ℕ
-per_call instances = 3 * deepest instances + 7
+per_call instances = 4 * deepest instances + 7
 
 abbrev pub decreases-in_line : goal.decreases-in_line
 decreases-in_line l = l.depth * per_call l.program.now.instances
 
 abbrev pub decreases-put_body : goal.decreases-put_body
-decreases-put_body l = l.depth * per_call l.program.now.instances + 3 * most size-Core l.f.now.body + 4
+decreases-put_body l = l.depth * per_call l.program.now.instances + 4 * most size-Core l.f.now.body + 4
 
 abbrev pub decreases-lower : goal.decreases-lower
-decreases-lower l = l.depth * per_call l.program.now.instances + 3 * goal.size-lower l + 1
+decreases-lower l = l.depth * per_call l.program.now.instances + 4 * goal.size-lower l + 1
 
 abbrev pub decreases-lower_all : goal.decreases-lower_all
-decreases-lower_all l = l.depth * per_call l.program.now.instances + 3 * goal.size-lower_all l + 2
+decreases-lower_all l = l.depth * per_call l.program.now.instances + 4 * goal.size-lower_all l + 2
 
 abbrev pub decreases-lower_part : goal.decreases-lower_part
-decreases-lower_part l = l.depth * per_call l.program.now.instances + 3 * goal.size-lower_part l + 3
+decreases-lower_part l = l.depth * per_call l.program.now.instances + 4 * goal.size-lower_part l + 3
 
 abbrev pub decreases-lower_call : goal.decreases-lower_call
 decreases-lower_call l = l.depth * per_call l.program.now.instances + 1
+
+abbrev pub decreases-lower_if : goal.decreases-lower_if
+decreases-lower_if l =
+    l.depth * per_call l.program.now.instances + 4 * max (most size-Core l.yes.now) (most size-Core l.no.now) + 4
