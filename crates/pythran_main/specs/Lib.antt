@@ -1,4 +1,5 @@
 pub mod Answer
+pub mod Compile
 pub mod Ending
 pub mod Kernel
 pub mod Layers

@@ -9,6 +9,9 @@ ghost use Rattle.std.specs.Vec.Iter.{into_iter_items};
 
 mod answer;
 mod command;
+mod compile;
+#[cfg(test)]
+mod compile_tests;
 mod deliver;
 #[cfg(test)]
 mod eager_tests;

@@ -94,7 +94,7 @@ fn evaluate(
 /// The loop program of a module, in which each kernel has the outcome of eager evaluation. Want of memory too where the
 /// program has a call, reads what it may not have bound or doesn't meet the loop program's conditions: no module that
 /// is served has such a program, but this isn't proved.
-fn loops_of(alloc: Global, program: &Program) -> Result<ValidProgram, NoMemory>
+pub fn loops_of(alloc: Global, program: &Program) -> Result<ValidProgram, NoMemory>
     requires typed { IsTyped program.now }
     ensures form { IfOk result (λ loops. loops ≡ plain_program_of program.now) }
     ensures checked { IfOk result (λ loops. flaw_of loops ≡ None) }
