@@ -20,3 +20,6 @@ pub mod Table
 pub mod TailEnds
 pub mod Templates
 pub mod Trees
+pub mod ValidNames
+pub mod ValidTemplates
+pub mod ValidStatements

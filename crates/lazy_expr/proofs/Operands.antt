@@ -48,7 +48,7 @@ same_one_kind Int64 Boolean h = not_both (sym h)
 same_one_kind Boolean Int64 h = not_both (sym h)
 same_one_kind Boolean Boolean h = refl
 
-same_one : (t u : Ty) → same_type t u ≡ true → t ≡ u
+pub same_one : (t u : Ty) → same_type t u ≡ true → t ≡ u
 same_one t u h = ap₂ (λ (a : Kind) (n : ℕ). (a, n))
     (same_one_kind t.0 u.0 (and_left (same_kind t.0 u.0) (t.1 == u.1) h))
     (eqb-true t.1 u.1 (and_right (same_kind t.0 u.0) (t.1 == u.1) h))
@@ -86,13 +86,13 @@ pub record IsScalar (names : List Ty) (x : Oper) : Type 0 where
   pub is_type : type_of names x ≡ Some type
   pub scalar : is_array type ≡ false
 
-number_type : (o : Option Ty) → is_number o ≡ true → o ≡ Some (Int64, 0)
+pub number_type : (o : Option Ty) → is_number o ≡ true → o ≡ Some (Int64, 0)
 number_type None h = not_both (sym h)
 number_type (Some (Int64, zero)) h = refl
 number_type (Some (Int64, suc n)) h = not_both (sym h)
 number_type (Some (Boolean, n)) h = not_both (sym h)
 
-truth_type : (o : Option Ty) → is_truth o ≡ true → o ≡ Some (Boolean, 0)
+pub truth_type : (o : Option Ty) → is_truth o ≡ true → o ≡ Some (Boolean, 0)
 truth_type None h = not_both (sym h)
 truth_type (Some (Boolean, zero)) h = refl
 truth_type (Some (Boolean, suc n)) h = not_both (sym h)
@@ -148,7 +148,7 @@ ranked : (rank : ℕ) (o : Option Kind) (u : Ty) → with_rank rank o ≡ Some u
 ranked rank None u h = none_some u h
 ranked rank (Some kind) u h = sym (ap (λ (t : Ty). t.1) (some_same (kind, rank) u h))
 
-scalar_rank : (u : Ty) → u.1 ≡ 0 → is_array u ≡ false
+pub scalar_rank : (u : Ty) → u.1 ≡ 0 → is_array u ≡ false
 scalar_rank u e = subst (λ (n : ℕ). is_array (u.0, n) ≡ false) (sym e) refl
 
 -- a scalar operation takes scalars and gives one

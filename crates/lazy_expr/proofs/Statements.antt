@@ -112,7 +112,7 @@ rank_left true rank gone t u e h =
     ap is_array (sym (some_same (t.0, rank - gone) u h)) ∙ positive (rank - gone) (omega (arith, there))
 rank_left false rank gone t u e h = none_some u h
 
-pick_array : (t u : Ty) (subs : List CoreSub) → pick_type t subs ≡ Some u → is_array u ≡ true
+pub pick_array : (t u : Ty) (subs : List CoreSub) → pick_type t subs ≡ Some u → is_array u ≡ true
 pick_array t u subs h = by_test (nat_le (length subs) t.1) h
   where
     by_test : (test : Bool) →
@@ -128,7 +128,7 @@ dims_array (suc n) t h =
     (sym (eqb-true t.1 (suc n) (and_right (nat_lt 0 (suc n) && nat_le (suc n) 4) (t.1 == suc n) h)))
     (positive (suc n) (omega arith))
 
-fresh_array : (fill : Fill) (dims : ℕ) (t : Ty) → fresh_fits fill dims t ≡ true → is_array t ≡ true
+pub fresh_array : (fill : Fill) (dims : ℕ) (t : Ty) → fresh_fits fill dims t ≡ true → is_array t ≡ true
 fresh_array fills.Zero dims t h = dims_array dims t h
 fresh_array fills.One dims t h = dims_array dims t h
 fresh_array fills.Count dims t h =

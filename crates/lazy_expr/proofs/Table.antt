@@ -234,6 +234,12 @@ module _ (names : List Ty) (n : ℕ) (below : n < length names) where
       get_or-map (λ (u : Ty). u.0) (picked is_word names) (rank is_word names n) nobody Int64 at.0 ∙
       ap (λ (u : Ty). u.0) at.1
 
+  pub view_type : is_array_name names n ≡ true →
+      slice_index_or (view_types names) (number (table_of names) n) (Int64, 0) ≡ slice_index_or names n (Int64, 0)
+  view_type e =
+      ap₂ (λ (ts : List Ty) (v : ℕ). slice_index_or ts v nobody) (types_are names) (view_number e) ∙
+      (picked_at is_array names n below e).1
+
 module _ (names : List Ty) (m n : ℕ) (below : m < length names) (next : n < length names) where
   apart_by : (a b : Bool) → is_array_name names m ≡ a → is_array_name names n ≡ b →
       register (table_of names) m ≡ register (table_of names) n → m ≡ n

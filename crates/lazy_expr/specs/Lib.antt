@@ -2,3 +2,4 @@ pub mod Table
 pub mod Plain
 pub mod Promise
 pub mod Lowered
+pub mod Valid
