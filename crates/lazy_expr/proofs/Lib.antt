@@ -23,3 +23,7 @@ pub mod Trees
 pub mod ValidNames
 pub mod ValidTemplates
 pub mod ValidStatements
+pub mod ValidFolds
+pub mod ValidBodies
+pub mod ValidEnds
+pub mod ValidKernels

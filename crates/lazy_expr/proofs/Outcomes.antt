@@ -43,7 +43,7 @@ free (Returned values) h = tt
 free (Faulted fault at) h = tt
 free Stuck h = absurd (h refl)
 
-no_item : {A : Type 0} (xs : List A) → is_none xs ≡ true → xs ≡ []
+pub no_item : {A : Type 0} (xs : List A) → is_none xs ≡ true → xs ≡ []
 no_item [] h = refl
 no_item (x ∷ xs) h = not_both (sym h)
 

@@ -172,7 +172,7 @@ same_class : (t u : Ty) → same_type t u ≡ true → is_array t ≡ is_array u
 same_class t u e = ap (λ (n : ℕ). not (eqb n 0)) (eqb-true t.1 u.1 (and_right (same_kind t.0 u.0) (eqb t.1 u.1) e))
 
 -- a positive rank is that of an array
-ranked : (n : ℕ) → nat_lt 0 n ≡ true → not (eqb n 0) ≡ true
+pub ranked : (n : ℕ) → nat_lt 0 n ≡ true → not (eqb n 0) ≡ true
 ranked n e = by_test (eqb n 0) refl
   where
     by_test : (b : Bool) → eqb n 0 ≡ b → not (eqb n 0) ≡ true
@@ -249,7 +249,7 @@ module _ (all : List Ty) (count : ℕ) (room : length (view_types all) ≤ count
       (bind_register (reg.View views) (ArrayOf (array_of v)) t)
       p.3 taken.1 (one_bound k (reg.View views) (ArrayOf (array_of v)) s t p.0 p.2 (view_fits all k v p.1) r)
 
-typed_params : (params : List (List ℕ × ParamType)) →
+pub typed_params : (params : List (List ℕ × ParamType)) →
     map type_of_param (map (λ (p : List ℕ × ParamType). p.1) params) ≡
     map (λ (p : List ℕ × ParamType). type_of_param p.1) params
 typed_params [] = refl

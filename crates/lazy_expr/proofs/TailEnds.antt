@@ -47,7 +47,7 @@ opened (l.ParFor var lo hi by at guard reductions privates body) =
 opened (l.Release view) = refl
 opened (l.Return values) = ap (λ (s : Statement). s ∷ []) (sym (v.rolls-Return values))
 
-rolled : (y : l.Statement-F Statement) → (with_end (roll-Statement y)).1 ≡ closing_in (roll-Statement y) y
+pub rolled : (y : l.Statement-F Statement) → (with_end (roll-Statement y)).1 ≡ closing_in (roll-Statement y) y
 rolled y = para-roll-Statement (List Statement) last_step y ∙ opened y
 
 closing_is : (s : Statement) → (with_end s).1 ≡ closing_in s (out-Statement s)

@@ -99,7 +99,7 @@ module _ (names fresh : List Ty) (kernel : Kernel) (words : kernel.regs ≡ word
     };
   }
 
-stands_from : (kernel : Kernel) (before fresh : List Ty) → kernel.views ≡ before ++ fresh →
+pub stands_from : (kernel : Kernel) (before fresh : List Ty) → kernel.views ≡ before ++ fresh →
     Stands kernel (length before) fresh
 stands_from kernel before [] views = tt
 stands_from kernel before (t ∷ fresh) views =

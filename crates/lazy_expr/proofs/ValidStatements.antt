@@ -165,7 +165,7 @@ module _ (kernel : Kernel) where
       all_local kernel (s ∷ []) ≡ true
   one_local y s e h = both (local_by y s e h) refl
 
-  check_local : (views : List ℕ) (test : _) (at : Loc) → list_all (is_there kernel) (map reg.View views) ≡ true →
+  pub check_local : (views : List ℕ) (test : _) (at : Loc) → list_all (is_there kernel) (map reg.View views) ≡ true →
       is_local kernel (v.Check test views at) ≡ true
   check_local views test at h =
       local_by (l.Check test views at) _ (v.rolls-Check test views at)
@@ -227,7 +227,7 @@ module _ (kernel : Kernel) where
     regs = table_of names
 
     -- a name that a statement binds to a word of a kind
-    number_kind : (to : ℕ) (kind : Kind) → has_type names to (Some (kind, 0)) ≡ true →
+    pub number_kind : (to : ℕ) (kind : Kind) → has_type names to (Some (kind, 0)) ≡ true →
         (is_there kernel (reg.Word (number regs to)) ≡ true) × (word_kind kernel (number regs to) ≡ kind)
     number_kind to kind h =
         let is = held.word to (kind, 0) (one_given (slice_get names to) (kind, 0) h) refl in (is.there, is.kind)
