@@ -151,7 +151,7 @@ stores_itself : (k : Kind) → may_store k k ≡ true
 stores_itself Int64 = refl
 stores_itself Boolean = refl
 
-no_array : (t : Ty) → is_scalar t ≡ true → is_array t ≡ false
+pub no_array : (t : Ty) → is_scalar t ≡ true → is_array t ≡ false
 no_array t h = ap not h
 
 module _ (kernel : Kernel) where
