@@ -27,3 +27,10 @@ pub mod ValidFolds
 pub mod ValidBodies
 pub mod ValidEnds
 pub mod ValidKernels
+pub mod ValidPaths
+pub mod ValidSteps
+pub mod ValidFills
+pub mod ValidBlocks
+pub mod ValidWalks
+pub mod ValidTrees
+pub mod ValidStarts

@@ -111,7 +111,7 @@ view_fits names n v e = (λ scalar. not_both (sym e ∙ scalar), λ array. prope
 
 -- ---- parameters
 -- the parameters' registers are those of the names from here on
-abbrev Placed : List Ty → ℕ → ℕ → ℕ → List ParamType → Type 0
+abbrev pub Placed : List Ty → ℕ → ℕ → ℕ → List ParamType → Type 0
 Placed all k words views [] = Unit {0}
 Placed all k words views (Scalar kind ∷ types) =
     (k < length all) × (is_array_name all k ≡ false) × (register (table_of all) k ≡ reg.Word words) ×
@@ -124,12 +124,12 @@ Placed all k words views (Strided kind rank ∷ types) =
     Placed all (k + 1) words (views + 1) types
 
 -- what is left of the names, and of their registers
-record Left (all : List Ty) (k words views : ℕ) (names : List Ty) : Type 0 where
+pub record Left (all : List Ty) (k words views : ℕ) (names : List Ty) : Type 0 where
   size : (n j : ℕ) → j ≡ k + n → n < length names → j < length all
   kind : (n j : ℕ) → j ≡ k + n → slice_index_or all j (Int64, 0) ≡ slice_index_or names n (Int64, 0)
   place : (n j : ℕ) → j ≡ k + n → register (table_of all) j ≡ register (table_from words views names) n
 
-whole : (all : List Ty) → Left all 0 0 0 all
+pub whole : (all : List Ty) → Left all 0 0 0 all
 whole all = record {
   size = λ n j e below. omega (arith, e, below);
   kind = λ n j e. ap (λ (i : ℕ). slice_index_or all i (Int64, 0)) (let same : j ≡ n = omega (arith, e) in same);
@@ -179,7 +179,7 @@ ranked n e = by_test (eqb n 0) refl
     by_test false q = ap not q
     by_test true q = absurd (omega (arith, eqb-true n 0 q, ltb-true 0 n e))
 
-placed : (all : List Ty) (k words views : ℕ) (names : List Ty) (types : List ParamType) → Left all k words views names →
+pub placed : (all : List Ty) (k words views : ℕ) (names : List Ty) (types : List ParamType) → Left all k words views names →
     same_types (take (length types) names) (map type_of_param types) ≡ true → list_all is_ranked types ≡ true →
     Placed all k words views types
 placed all k words views names [] left same ranks = tt

@@ -207,7 +207,7 @@ module _ (f : Instance) (heads : List Head) (typed : IsWellTyped heads f) (ranks
   abbrev fresh : List Ty
   fresh = (lowered f.names f.body).fresh
 
-  abbrev types : List ParamType
+  abbrev pub types : List ParamType
   types = map (λ (p : List ℕ × ParamType). p.1) f.params
 
   names_within : within f.names ≡ true
@@ -226,12 +226,12 @@ module _ (f : Instance) (heads : List Head) (typed : IsWellTyped heads f) (ranks
       (flat_map-map (λ (names : List ℕ). names) (fold-Core (List ℕ) calls_step) f.body ∙ no_item (calls_of f.body) flat)
       (stands f.names fresh kernel refl)
 
-  same_params : same_types (take (length types) f.names) (map type_of_param types) ≡ true
+  pub same_params : same_types (take (length types) f.names) (map type_of_param types) ≡ true
   same_params =
       ap₂ (λ (n : ℕ) (given : List Ty). same_types (take n f.names) given)
       (length-map f.params (λ (p : List ℕ × ParamType). p.1)) (typed_params f.params) ∙ typed.params
 
-  params_kept : Fitting kernel (param_regs 0 0 types) types
+  pub params_kept : Fitting kernel (param_regs 0 0 types) types
   params_kept =
       params_fit kernel 0 0 f.names types (words_from kernel [] (word_kinds f.names) refl)
       (stands_split kernel 0 (view_types f.names) fresh (stands_from kernel [] (view_types f.names ++ fresh) refl)).0

@@ -31,7 +31,7 @@ use Rattle.loop_prog.specs.declared.program.TemplateStep.{TemplateStep}
 abbrev test_at : List Bool → ℕ → Bool
 test_at tests i = slice_index_or tests i false
 
-set_keeps : (tests : List Bool) (j i : ℕ) → test_at tests i ≡ true → test_at (slice_set tests j true) i ≡ true
+pub set_keeps : (tests : List Bool) (j i : ℕ) → test_at tests i ≡ true → test_at (slice_set tests j true) i ≡ true
 set_keeps [] j i h = h
 set_keeps (x ∷ xs) zero zero h = refl
 set_keeps (x ∷ xs) zero (suc i) h = h
@@ -101,6 +101,17 @@ pub record Tracks (names : List Ty) (kernel : Kernel) (bound : Bindings) (paths 
   pub size : slot_count kernel ≤ length paths.slots
   pub named : (n : ℕ) → bound_in bound n ≡ true → is_assigned paths (register (table_of names) n) ≡ true
 
+-- a register's test has a place
+pub in_slots : (kernel : Kernel) (r : Reg) → is_there kernel r ≡ true → slot r < slot_count kernel
+in_slots kernel (reg.Word r) h =
+    let below : r < length kernel.regs = ltb-true r (length kernel.regs) h in
+    let most : length kernel.regs ≤ max (length kernel.regs) (length kernel.views) =
+    le-max_left (length kernel.regs) (length kernel.views) in omega (arith, below, most)
+in_slots kernel (reg.View v) h =
+    let below : v < length kernel.views = ltb-true v (length kernel.views) h in
+    let most : length kernel.views ≤ max (length kernel.regs) (length kernel.views) =
+    le-max_right (length kernel.regs) (length kernel.views) in omega (arith, below, most)
+
 module _ (names : List Ty) (kernel : Kernel) (held : Holds names kernel) where
   abbrev regs : List Reg
   regs = table_of names
@@ -112,20 +123,10 @@ module _ (names : List Ty) (kernel : Kernel) (held : Holds names kernel) where
   fewer b c p h t = record { reached = t.reached; size = t.size; named = λ n e. t.named n (h n e) }
 
   -- ---- assignments
-  in_slots : (r : Reg) → is_there kernel r ≡ true → slot r < slot_count kernel
-  in_slots (reg.Word r) h =
-      let below : r < length kernel.regs = ltb-true r (length kernel.regs) h in
-      let most : length kernel.regs ≤ max (length kernel.regs) (length kernel.views) =
-      le-max_left (length kernel.regs) (length kernel.views) in omega (arith, below, most)
-  in_slots (reg.View v) h =
-      let below : v < length kernel.views = ltb-true v (length kernel.views) h in
-      let most : length kernel.views ≤ max (length kernel.regs) (length kernel.views) =
-      le-max_right (length kernel.regs) (length kernel.views) in omega (arith, below, most)
-
   pub assigned_here : (r : Reg) (b : Bindings) (p : Paths) → is_there kernel r ≡ true → Follow b p →
       is_assigned (assign (r ∷ []) p) r ≡ true
   assigned_here r b p h t =
-      let below : slot r < slot_count kernel = in_slots r h in
+      let below : slot r < slot_count kernel = in_slots kernel r h in
       get_or-set_same p.slots (slot r) true false (omega (arith, below, t.size))
 
   pub assigned_still : (r other : Reg) (p : Paths) → is_assigned p other ≡ true →

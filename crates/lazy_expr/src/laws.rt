@@ -3,7 +3,7 @@ ghost use Rattle.std.specs.Prelude.{◌≡◌, true};
 ghost use Rattle.eager_rules.specs.declared.program.Instance.{Instance as AnyInstance};
 ghost use Rattle.lazy_expr.specs.Plain.{plain_kernel};
 ghost use Rattle.lazy_expr.specs.Promise.{KeepsOutcomes, is_flat};
-ghost use Rattle.lazy_expr.specs.Valid.{KeepsLocalRules};
+ghost use Rattle.lazy_expr.specs.Valid.{KeepsLocalRules, KeepsPathRules, is_shallow};
 
 use eager_rules::laws_of_all_programs;
 use overlap::walk_law;
@@ -21,4 +21,9 @@ pub fn plain_law()
 /// The plain form of an instance without own calls keeps the rules on registers, kinds, ranks and templates.
 pub fn local_law()
     ensures { (f : AnyInstance) → is_flat f ≡ true → KeepsLocalRules f (plain_kernel f) }
+{}
+
+/// The plain form of an instance without own calls keeps the rules on paths, nesting and returns.
+pub fn path_law()
+    ensures { (f : AnyInstance) → is_flat f ≡ true → is_shallow f ≡ true → KeepsPathRules f (plain_kernel f) }
 {}
