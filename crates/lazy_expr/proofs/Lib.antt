@@ -34,3 +34,5 @@ pub mod ValidBlocks
 pub mod ValidWalks
 pub mod ValidTrees
 pub mod ValidStarts
+pub mod ValidRules
+pub mod ValidPrograms

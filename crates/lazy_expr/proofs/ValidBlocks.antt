@@ -4,7 +4,7 @@ use Rattle.std.specs.List.{list_all}
 use Rattle.std.proofs.lemmas.List.Folds.{list_all-append}
 use Rattle.eager_rules.specs.Types.{Ty}
 use Rattle.lazy_expr.specs.Plain.{closed, closed_for, with_end}
-use Rattle.lazy_expr.specs.Valid.{keeps_paths}
+use Rattle.lazy_expr.proofs.ValidRules.{keeps_paths}
 use Rattle.lazy_expr.proofs.Binds.{and_left, and_right}
 use Rattle.lazy_expr.proofs.TailEnds.{rolled}
 use Rattle.lazy_expr.proofs.ValidNames.{both}

@@ -25,7 +25,7 @@ use Rattle.eager_rules.specs.declared.program.Oper.{Oper}
 use Rattle.lazy_expr.specs.Plain.{lower_map, map_into, map_steps, names_it}
 use Rattle.lazy_expr.specs.Plain.{Lowering, empty_guard, in_turn, loop_of, lowered, plain_of, plain_step, reduction_of}
 use Rattle.lazy_expr.specs.Table.{number, oper_of, opers_of, table_of, view_types}
-use Rattle.lazy_expr.specs.Valid.{all_local, is_local, local_at, local_step}
+use Rattle.lazy_expr.proofs.ValidRules.{all_local, is_local, local_at, local_step}
 use Rattle.lazy_expr.proofs.Binds.{and_left, and_right, not_both}
 use Rattle.lazy_expr.proofs.Operands.{none_some, one_given, some_given, some_same, truth_scalar, truth_type, typed_name}
 use Rattle.lazy_expr.proofs.Templates.{map_given}

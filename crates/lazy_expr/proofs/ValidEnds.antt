@@ -6,7 +6,7 @@ use Rattle.std.proofs.lemmas.List.Folds.{list_all-append}
 use Rattle.eager_rules.specs.Types.{Ty, same_types}
 use Rattle.lazy_expr.specs.Lowered.{closing_in}
 use Rattle.lazy_expr.specs.Plain.{Closing, closed, closed_for, with_end}
-use Rattle.lazy_expr.specs.Valid.{all_local, is_local, keeps_local, local_at, local_step}
+use Rattle.lazy_expr.proofs.ValidRules.{all_local, is_local, keeps_local, local_at, local_step}
 use Rattle.lazy_expr.proofs.Binds.{and_left, and_right}
 use Rattle.lazy_expr.proofs.TailEnds.{rolled}
 use Rattle.lazy_expr.proofs.ValidBodies.{mapped_all}

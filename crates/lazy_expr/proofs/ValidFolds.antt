@@ -14,7 +14,7 @@ use Rattle.eager_rules.specs.Types.{Ty, is_array, reduce_kind, reduce_type}
 use Rattle.lazy_expr.specs.Lowered.{reduced}
 use Rattle.lazy_expr.specs.Plain.{fold_steps, join_of, some_before, template}
 use Rattle.lazy_expr.specs.Table.{number, table_of}
-use Rattle.lazy_expr.specs.Valid.{all_local, is_local}
+use Rattle.lazy_expr.proofs.ValidRules.{all_local, is_local}
 use Rattle.lazy_expr.proofs.Operands.{array_named_given, typed_name}
 use Rattle.lazy_expr.proofs.Reductions.{reduce_given}
 use Rattle.lazy_expr.proofs.ValidNames.{Holds, both}

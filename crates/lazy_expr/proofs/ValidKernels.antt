@@ -5,7 +5,7 @@ use Rattle.std.proofs.Common.{◌&&◌, List, [], ◌∷◌, ◌++◌, map, leng
 use Rattle.std.proofs.Common.{length-append}
 use Rattle.std.proofs.lemmas.List.{length-map}
 use Rattle.std.specs.Prelude.{slice_get, slice_index_or, nat_le, nat_lt, ◌==◌, if◌then◌else◌}
-use Rattle.std.specs.List.{flat_map, list_all, zip}
+use Rattle.std.specs.List.{flat_map, list_all, list_any, zip}
 use Rattle.std.proofs.lemmas.Bool.{lt-ltb}
 use Rattle.std.proofs.lemmas.List.Folds.{flat_map-map, list_all-append}
 use Rattle.std.proofs.lemmas.Option.{get_or_from_slice_get, slice_get_within}
@@ -22,7 +22,7 @@ use Rattle.eager_rules.specs.declared.program.Program.{Program}
 use Rattle.lazy_expr.specs.Plain.{closed_for, lowered, plain_kernel}
 use Rattle.lazy_expr.specs.Promise.{has_ranked_params, is_flat, is_ranked}
 use Rattle.lazy_expr.specs.Table.{view_types, word_kinds}
-use Rattle.lazy_expr.specs.Valid.{KeepsLocalRules, all_local, keeps_local}
+use Rattle.lazy_expr.proofs.ValidRules.{all_local, keeps_local}
 use Rattle.lazy_expr.proofs.Binds.{and_left, and_right, not_both}
 use Rattle.lazy_expr.proofs.Operands.{same_one}
 use Rattle.lazy_expr.proofs.Outcomes.{no_item}
@@ -31,7 +31,7 @@ use Rattle.lazy_expr.proofs.ValidBodies.{all_ranked, body_local}
 use Rattle.lazy_expr.proofs.ValidEnds.{closed_for_local, found_local}
 use Rattle.lazy_expr.proofs.ValidNames.{Stands, both, holds, stands, stands_from, stands_split}
 use Rattle.lazy_expr.proofs.ValidStatements.{kind_itself}
-use Rattle.loop_prog.specs.Check.{both_keep, is_rank, kernel_findings, kernel_keeps, param_is_ranked, param_kind}
+use Rattle.loop_prog.specs.Check.{both_keep, is_rank, kernel_findings, kernel_keeps, param_is_ranked, param_kind, same_head}
 use Rattle.loop_prog.specs.Check.{body_findings, param_rank, with_own}
 use Rattle.loop_prog.specs.Conditions.{is_there, view_type, word_kind}
 use Rattle.loop_prog.specs.Paths.{at_start}
@@ -237,22 +237,17 @@ module _ (f : Instance) (heads : List Head) (typed : IsWellTyped heads f) (ranks
       (stands_split kernel 0 (view_types f.names) fresh (stands_from kernel [] (view_types f.names ++ fresh) refl)).0
       same_params ranks names_within
 
-  own : keeps_local (kernel_keeps [] kernel) ≡ true
-  own =
-      both (both (both params_kept.there refl) params_kept.kinds)
-      (both (both params_kept.ranked (both (list_all-append (λ (t : Ty). is_rank t.1) (view_types f.names) fresh ∙
-      both (array_types_ranked f.names names_within) body_kept.1) (both rets_within params_kept.ranks))) refl)
+  -- behind kernels with other heads
+  module _ (earlier : List Kernel) (apart : list_any (same_head kernel) earlier ≡ false) where
+    own : keeps_local (kernel_keeps earlier kernel) ≡ true
+    own =
+        both (both (both params_kept.there (ap not apart)) params_kept.kinds)
+        (both (both params_kept.ranked (both (list_all-append (λ (t : Ty). is_rank t.1) (view_types f.names) fresh ∙
+        both (array_types_ranked f.names names_within) body_kept.1) (both rets_within params_kept.ranks))) refl)
 
-  pub kernel_local : list_all keeps_local (kernel_findings [] kernel) ≡ true
-  kernel_local =
-      own_kept (kernel_keeps [] kernel) (body_findings kernel) own
-      (found_local kernel kernel.body
-      (closed_for_local kernel f.rets refl (lowered f.names f.body).body body_kept.0)
-      (record { depth = 0; ends = true }) (at_start kernel))
-
-pub keeps_local_rules : (f : Instance) → is_flat f ≡ true → KeepsLocalRules f (plain_kernel f)
-keeps_local_rules f flat program number sound there ranks =
-    kernel_local f (map head_of program.instances)
-    (subst (IsWellTyped (map head_of program.instances))
-    (get_or_from_slice_get program.instances number f f there)
-    (sound.typed.instances number f (slice_get_within program.instances number f there))) ranks flat
+    pub kernel_local : list_all keeps_local (kernel_findings earlier kernel) ≡ true
+    kernel_local =
+        own_kept (kernel_keeps earlier kernel) (body_findings kernel) own
+        (found_local kernel kernel.body
+        (closed_for_local kernel f.rets refl (lowered f.names f.body).body body_kept.0)
+        (record { depth = 0; ends = true }) (at_start kernel))

@@ -19,7 +19,8 @@ use Rattle.eager_rules.specs.declared.program.Program.{Program}
 use Rattle.lazy_expr.specs.Plain.{lowered, plain_kernel}
 use Rattle.lazy_expr.specs.Promise.{has_ranked_params, is_flat}
 use Rattle.lazy_expr.specs.Table.{register, table_of}
-use Rattle.lazy_expr.specs.Valid.{KeepsPathRules, is_shallow, keeps_paths, shallow_step}
+use Rattle.lazy_expr.specs.Valid.{is_shallow, shallow_step}
+use Rattle.lazy_expr.proofs.ValidRules.{keeps_paths}
 use Rattle.lazy_expr.proofs.Binds.{and_left, and_right, not_both}
 use Rattle.lazy_expr.proofs.Operands.{some_given}
 use Rattle.lazy_expr.proofs.Outcomes.{no_item}
@@ -152,21 +153,12 @@ module _ (f : Instance) (heads : List _) (typed : IsWellTyped heads f) (ranks : 
         (omega arith) (omega (arith, count, below));
   }
 
-  pub kernel_paths : list_all keeps_paths (kernel_findings [] kernel) ≡ true
-  kernel_paths =
+  pub kernel_paths : (earlier : List Kernel) → list_all keeps_paths (kernel_findings earlier kernel) ≡ true
+  kernel_paths earlier =
       let walked = some_given (walk f.body first) (λ names. true) bound in
       let ends = body_walks heads f.names kernel (holds f.names (lowered f.names f.body).fresh kernel refl refl) f.body
       typed.body (flat_map-map (λ (names : List ℕ). names) (fold-Core (List ℕ) calls_step) f.body ∙
       no_item (calls_of f.body) flat) (stands f.names (lowered f.names f.body).fresh kernel refl) first walked.0 walked.1
       (list_all-map (λ (fits : ℕ → Bool). fits 0) (fold-Core (ℕ → Bool) shallow_step) f.body ∙ shallow)
       (at_start kernel) starts typed.returns in
-      own_paths (kernel_keeps [] kernel) (body_findings kernel) ends.1 ends.0
-
-pub keeps_path_rules : (f : Instance) → is_flat f ≡ true → is_shallow f ≡ true → KeepsPathRules f (plain_kernel f)
-keeps_path_rules f flat shallow program number sound there ranks =
-    kernel_paths f (map head_of program.instances)
-    (subst (IsWellTyped (map head_of program.instances))
-    (get_or_from_slice_get program.instances number f f there)
-    (sound.typed.instances number f (slice_get_within program.instances number f there))) ranks flat shallow
-    (subst (λ (g : Instance). all_bound g ≡ true) (get_or_from_slice_get program.instances number f f there)
-    (sound.assigned number f (slice_get_within program.instances number f there)))
+      own_paths (kernel_keeps earlier kernel) (body_findings kernel) ends.1 ends.0

@@ -30,7 +30,7 @@ use Rattle.eager_rules.specs.declared.program.WordOp.TheVariants as word_op
 use Rattle.lazy_expr.specs.Plain.{fold_steps, join_of, lower_map, map_into, map_steps, names_it, operand_step}
 use Rattle.lazy_expr.specs.Plain.{some_before, template}
 use Rattle.lazy_expr.specs.Table.{back_of, number, oper_of, opers_of, register, sub_of, table_of}
-use Rattle.lazy_expr.specs.Valid.{all_local, is_local, local_at, local_step}
+use Rattle.lazy_expr.proofs.ValidRules.{all_local, is_local, local_at, local_step}
 use Rattle.lazy_expr.proofs.Binds.{and_left, and_right, not_both}
 use Rattle.lazy_expr.proofs.Operands.{AreScalar, IsScalar, array_named_given, none_some, numbers_scalar, of_types}
 use Rattle.lazy_expr.proofs.Operands.{one_given, same_one, some_given, some_same, typed_name, types_scalar, word_scalars}

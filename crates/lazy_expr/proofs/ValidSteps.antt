@@ -25,7 +25,7 @@ use Rattle.lazy_expr.specs.Lowered.{closing_in, reduced}
 use Rattle.lazy_expr.specs.Plain.{closed, fold_steps, join_of, lower_map, map_into, map_steps, names_it, operand_step}
 use Rattle.lazy_expr.specs.Plain.{operation_step, some_before, template, with_end}
 use Rattle.lazy_expr.specs.Table.{number, oper_of, opers_of, register, sub_of, table_of}
-use Rattle.lazy_expr.specs.Valid.{keeps_paths}
+use Rattle.lazy_expr.proofs.ValidRules.{keeps_paths}
 use Rattle.lazy_expr.proofs.Binds.{and_left, and_right}
 use Rattle.lazy_expr.proofs.Operands.{AreScalar, array_named_given, numbers_scalar, of_types, one_given, some_given}
 use Rattle.lazy_expr.proofs.Operands.{subs_given, subs_scalar, typed_name, types_scalar, word_scalars}

@@ -25,7 +25,8 @@ use Rattle.eager_rules.specs.declared.program.Oper.TheVariants as oper
 use Rattle.lazy_expr.specs.Plain.{Lowering, closed, closed_for, empty_guard, in_turn, loop_of, lowered, plain_of, plain_step}
 use Rattle.lazy_expr.specs.Plain.{reduction_of, with_end}
 use Rattle.lazy_expr.specs.Table.{number, oper_of, opers_of, table_of, view_types}
-use Rattle.lazy_expr.specs.Valid.{keeps_paths, shallow_step}
+use Rattle.lazy_expr.specs.Valid.{shallow_step}
+use Rattle.lazy_expr.proofs.ValidRules.{keeps_paths}
 use Rattle.lazy_expr.proofs.Binds.{and_left, and_right, not_both}
 use Rattle.lazy_expr.proofs.Operands.{numbers_scalar, one_given, some_same}
 use Rattle.lazy_expr.proofs.TailEnds.{rolled}

@@ -25,7 +25,8 @@ use Rattle.eager_rules.specs.Works.{sub_operands}
 use Rattle.lazy_expr.specs.Plain.{Lowering, closed, closed_for, empty_guard, in_turn, loop_of, plain_of, plain_step}
 use Rattle.lazy_expr.specs.Plain.{reduction_of, with_end}
 use Rattle.lazy_expr.specs.Table.{back_of, number, oper_of, opers_of, table_of}
-use Rattle.lazy_expr.specs.Valid.{keeps_paths, shallow_step}
+use Rattle.lazy_expr.specs.Valid.{shallow_step}
+use Rattle.lazy_expr.proofs.ValidRules.{keeps_paths}
 use Rattle.lazy_expr.proofs.Binds.{and_left, and_right, not_both}
 use Rattle.lazy_expr.proofs.Operands.{none_some, numbers_scalar, one_given, some_same, truth_scalar}
 use Rattle.lazy_expr.proofs.TailEnds.{rolled}

@@ -1,7 +1,9 @@
--- What of a loop program's conditions plain kernels meet: the rules that a statement keeps or breaks wherever it stands,
--- which are those on registers, kinds, ranks and templates.
-use Rattle.std.specs.Prelude.{◌≡◌, ◌&&◌, ◌+◌, ℕ, Bool, true, List, [], Some, nat_lt, slice_get}
-use Rattle.std.specs.List.{list_all}
+-- That the plain form meets the conditions of loop programs: for one kernel, and for a module.
+use Rattle.std.specs.Prelude.{◌≡◌, ◌&&◌, ◌++◌, ◌+◌, ℕ, Bool, true, false, not, List, [], ◌∷◌, Option, Some, None, map}
+use Rattle.std.specs.Prelude.{nat_lt, slice_get}
+use Rattle.std.specs.List.{flat_map, list_all, list_any}
+use Rattle.std.specs.Str.{bytes_eq}
+use Rattle.krn_base.specs.declared.kind.ParamType.{ParamType}
 use Rattle.eager_rules.specs.Sound.{IsSound}
 use Rattle.eager_rules.specs.declared.program.Core.{Core}
 use Rattle.eager_rules.specs.declared.program.Core.TheOpen as c
@@ -9,24 +11,9 @@ use Rattle.eager_rules.specs.declared.program.Core.TheFolds.{fold-Core}
 use Rattle.eager_rules.specs.declared.program.Instance.{Instance}
 use Rattle.eager_rules.specs.declared.program.Program.{Program}
 use Rattle.lazy_expr.specs.Promise.{has_ranked_params}
-use Rattle.loop_prog.specs.Check.{kernel_findings}
-use Rattle.loop_prog.specs.Conditions.{kinds_fit, ranks_fit, registers_fit, templates_fit}
-use Rattle.loop_prog.specs.Statements.{blocks_of}
-use Rattle.loop_prog.specs.declared.kept.Kept.{Kept}
+use Rattle.loop_prog.specs.Check.{first_flaw, flaw_of, kernel_findings, same_head, same_params}
 use Rattle.loop_prog.specs.declared.program.Kernel.{Kernel}
-use Rattle.loop_prog.specs.declared.program.Statement.{Statement}
-use Rattle.loop_prog.specs.declared.program.Statement.TheOpen as l
-use Rattle.loop_prog.specs.declared.program.Statement.TheFolds.{fold-Statement}
-
--- the rules on registers, kinds, ranks and templates
-abbrev pub keeps_local : Kept → Bool
-keeps_local kept = (kept.register && kept.kind) && (kept.rank && kept.template)
-
--- Whatever kernels stand before it with other heads, a kernel keeps those rules, in each of its statements.
-abbrev pub KeepsLocalRules : Instance → Kernel → Type 0
-KeepsLocalRules f kernel =
-    (program : Program) (number : ℕ) → IsSound program → slice_get program.instances number ≡ Some f →
-    has_ranked_params f ≡ true → list_all keeps_local (kernel_findings [] kernel) ≡ true
+use Rattle.loop_prog.specs.declared.program.LoopProgram.{LoopProgram}
 
 -- No statement with blocks stands in more than 127 others.
 abbrev pub shallow_step : c.Core-F (ℕ → Bool) → ℕ → Bool
@@ -41,24 +28,37 @@ is_shallow_at depth core = fold-Core (ℕ → Bool) shallow_step core depth
 abbrev pub is_shallow : Instance → Bool
 is_shallow f = list_all (is_shallow_at 0) f.body
 
--- the rules on assignments, nesting and returns, and a kernel's own entries apart
-abbrev pub keeps_paths : Kept → Bool
-keeps_paths kept = kept.assigned && (kept.nesting && kept.returns)
-
-abbrev pub KeepsPathRules : Instance → Kernel → Type 0
-KeepsPathRules f kernel =
+-- A kernel has no flaw, whatever number its first statement has, and behind whatever kernels with other heads it stands.
+abbrev pub KeepsConditions : Instance → Kernel → Type 0
+KeepsConditions f kernel =
     (program : Program) (number : ℕ) → IsSound program → slice_get program.instances number ≡ Some f →
-    has_ranked_params f ≡ true → list_all keeps_paths (kernel_findings [] kernel) ≡ true
+    has_ranked_params f ≡ true → is_shallow f ≡ true → (earlier : List Kernel) →
+    list_any (same_head kernel) earlier ≡ false → (n : ℕ) → first_flaw n (kernel_findings earlier kernel) ≡ None
 
--- the rules on registers, kinds, ranks and templates of one statement and those of its blocks
-abbrev pub local_at : {A : Type 0} → Kernel → l.Statement-F A → Bool
-local_at kernel y = (registers_fit kernel y && kinds_fit kernel y) && (ranks_fit kernel y && templates_fit y)
+-- ---- a module
+-- the instances of a program's kernels, in order
+abbrev pub instance_at : Option Instance → List Instance
+instance_at None = []
+instance_at (Some f) = f ∷ []
 
-abbrev pub local_step : Kernel → l.Statement-F Bool → Bool
-local_step kernel y = local_at kernel y && list_all (λ b. b) (blocks_of y)
+abbrev pub kernel_instances : Program → List Instance
+kernel_instances program = flat_map (λ number. instance_at (slice_get program.instances number)) program.kernels
 
-abbrev pub is_local : Kernel → Statement → Bool
-is_local kernel = fold-Statement Bool (local_step kernel)
+abbrev pub types_of_instance : Instance → List ParamType
+types_of_instance f = map (λ p. p.1) f.params
 
-abbrev pub all_local : Kernel → List Statement → Bool
-all_local kernel body = list_all (is_local kernel) body
+abbrev pub same_heads : Instance → Instance → Bool
+same_heads f g = bytes_eq f.name g.name && same_params (types_of_instance f) (types_of_instance g)
+
+-- instances of which none has the head of an earlier one
+abbrev pub are_distinct : List Instance → List Instance → Bool
+are_distinct earlier [] = true
+are_distinct earlier (f ∷ rest) = not (list_any (same_heads f) earlier) && are_distinct (earlier ++ f ∷ []) rest
+
+-- The loop program has no flaw where each array parameter of a kernel has a dimension, no statement of a kernel stands
+-- too deep, and no two kernels have one name and the same parameter types.
+abbrev pub ProgramKeepsConditions : Program → LoopProgram → Type 0
+ProgramKeepsConditions program loops =
+    list_all has_ranked_params (kernel_instances program) ≡ true →
+    list_all is_shallow (kernel_instances program) ≡ true → are_distinct [] (kernel_instances program) ≡ true →
+    flaw_of loops ≡ None

@@ -1,9 +1,11 @@
 // What the plain form keeps, of every instance at once.
 ghost use Rattle.std.specs.Prelude.{◌≡◌, true};
+ghost use Rattle.eager_rules.specs.Sound.{IsSound};
 ghost use Rattle.eager_rules.specs.declared.program.Instance.{Instance as AnyInstance};
+ghost use Rattle.eager_rules.specs.declared.program.Program.{Program as AnyProgram};
 ghost use Rattle.lazy_expr.specs.Plain.{plain_kernel};
-ghost use Rattle.lazy_expr.specs.Promise.{KeepsOutcomes, is_flat};
-ghost use Rattle.lazy_expr.specs.Valid.{KeepsLocalRules, KeepsPathRules, is_shallow};
+ghost use Rattle.lazy_expr.specs.Promise.{KeepsOutcomes, has_flat_kernels, is_flat, plain_program};
+ghost use Rattle.lazy_expr.specs.Valid.{KeepsConditions, ProgramKeepsConditions};
 
 use eager_rules::laws_of_all_programs;
 use overlap::walk_law;
@@ -18,12 +20,12 @@ pub fn plain_law()
     broadcast_law();
 }
 
-/// The plain form of an instance without own calls keeps the rules on registers, kinds, ranks and templates.
-pub fn local_law()
-    ensures { (f : AnyInstance) → is_flat f ≡ true → KeepsLocalRules f (plain_kernel f) }
-{}
-
-/// The plain form of an instance without own calls keeps the rules on paths, nesting and returns.
-pub fn path_law()
-    ensures { (f : AnyInstance) → is_flat f ≡ true → is_shallow f ≡ true → KeepsPathRules f (plain_kernel f) }
+/// The plain form meets the conditions of loop programs: of an instance without own calls, and of a sound program whose
+/// kernels call no own function.
+pub fn condition_law()
+    ensures kernel { (f : AnyInstance) → is_flat f ≡ true → KeepsConditions f (plain_kernel f) }
+    ensures whole {
+        (program : AnyProgram) → IsSound program → has_flat_kernels program ≡ true →
+        ProgramKeepsConditions program (plain_program program)
+    }
 {}
