@@ -5,9 +5,10 @@ ghost use Rattle.lazy_expr.specs.Plain.{plain_kernel};
 ghost use Rattle.lazy_expr.specs.Promise.{KeepsOutcomes, ProgramKeepsOutcomes, has_flat_kernels, is_flat};
 ghost use Rattle.lazy_expr.specs.Promise.{kernel_at};
 ghost use Rattle.lazy_expr.specs.Promise.{plain_program as plain_program_of};
+ghost use Rattle.lazy_expr.specs.Valid.{KeepsConditions, ProgramKeepsConditions};
 
 use crate::closing::close_for;
-use crate::laws::plain_law;
+use crate::laws::{condition_law, plain_law};
 use crate::lower::lower_block;
 use crate::registers::{table_of, view_types, word_kinds};
 use eager_rules::{Instance, Program};
@@ -56,15 +57,18 @@ fn form_of(alloc: Global, instance: &Instance) -> Result<Kernel, NoMemory>
 }
 
 /// The plain form of an instance without own calls. Where each of its array parameters has a dimension, it has for
-/// every call that fits the outcome of eager evaluation: values, final buffers, and the fault with its place. Takes
+/// every call that fits the outcome of eager evaluation: values, final buffers, and the fault with its place; and where
+/// besides no statement with blocks stands in more than 127 others, it meets the conditions of loop programs. Takes
 /// time linear in the instance. Want of memory also where there would be more than 2^32 - 1 names or 2^32 view
 /// registers.
 pub fn plain(alloc: Global, instance: &Instance) -> Result<Kernel, NoMemory>
     requires flat { is_flat instance.now ≡ true }
     ensures form { IfOk result (λ k. k ≡ plain_kernel instance.now) }
     ensures outcomes { IfOk result (λ k. KeepsOutcomes instance.now k) }
+    ensures conditions { IfOk result (λ k. KeepsConditions instance.now k) }
 {
     plain_law();
+    condition_law();
     form_of(alloc, instance)
 }
 
@@ -98,13 +102,16 @@ fn program_form(alloc: Global, program: &Program) -> Result<LoopProgram, NoMemor
 }
 
 /// The plain form of a sound program whose kernels call no own function: one kernel for each of its kernels, in order.
-/// Each has the outcomes that `plain` speaks of. Takes time linear in the kernels' instances.
+/// Each has the outcomes that `plain` speaks of, and the program meets the conditions of loop programs where each kernel
+/// is as `plain` asks and no two have one name and the same parameter types. Takes time linear in the kernels' instances.
 pub fn plain_program(alloc: Global, program: &Program) -> Result<LoopProgram, NoMemory>
     requires sound { IsSound program.now }
     requires flat { has_flat_kernels program.now ≡ true }
     ensures form { IfOk result (λ p. p ≡ plain_program_of program.now) }
     ensures outcomes { IfOk result (λ p. ProgramKeepsOutcomes program.now p) }
+    ensures conditions { IfOk result (λ p. ProgramKeepsConditions program.now p) }
 {
     plain_law();
+    condition_law();
     program_form(alloc, program)
 }
