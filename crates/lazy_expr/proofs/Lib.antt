@@ -36,3 +36,5 @@ pub mod ValidTrees
 pub mod ValidStarts
 pub mod ValidRules
 pub mod ValidPrograms
+pub mod ValidTypes
+pub mod ValidLoops

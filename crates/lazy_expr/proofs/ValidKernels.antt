@@ -30,7 +30,7 @@ use Rattle.lazy_expr.proofs.Start.{ranked, typed_params}
 use Rattle.lazy_expr.proofs.ValidBodies.{all_ranked, body_local}
 use Rattle.lazy_expr.proofs.ValidEnds.{closed_for_local, found_local}
 use Rattle.lazy_expr.proofs.ValidNames.{Stands, both, holds, stands, stands_from, stands_split}
-use Rattle.lazy_expr.proofs.ValidStatements.{kind_itself}
+use Rattle.lazy_expr.proofs.ValidTypes.{kind_itself}
 use Rattle.loop_prog.specs.Check.{both_keep, is_rank, kernel_findings, kernel_keeps, param_is_ranked, param_kind, same_head}
 use Rattle.loop_prog.specs.Check.{body_findings, param_rank, with_own}
 use Rattle.loop_prog.specs.Conditions.{is_there, view_type, word_kind}

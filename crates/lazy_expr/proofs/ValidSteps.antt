@@ -37,7 +37,7 @@ use Rattle.lazy_expr.proofs.ValidNames.{Holds, Stands, both}
 use Rattle.lazy_expr.proofs.ValidPaths.{Sub, Tracks, assigned_here, assigned_still, follow_bound, follow_new}
 use Rattle.lazy_expr.proofs.ValidPaths.{reads_assigned, scalar_assigned, scalars_assigned, set_more, steps_assigned}
 use Rattle.lazy_expr.proofs.ValidPaths.{view_assigned}
-use Rattle.lazy_expr.proofs.ValidStatements.{no_array}
+use Rattle.lazy_expr.proofs.ValidTypes.{no_array}
 use Rattle.loop_prog.specs.Check.{Findings, before_rest, findings, findings_step, has_some, with_findings}
 use Rattle.loop_prog.specs.Conditions.{is_there}
 use Rattle.loop_prog.specs.Judging.{block_by}

@@ -35,6 +35,7 @@ use Rattle.lazy_expr.proofs.ValidBlocks.{closed_for_joined, firsts, flow_joined,
 use Rattle.lazy_expr.proofs.ValidBlocks.{passes_mid, some_joined}
 use Rattle.lazy_expr.proofs.ValidBodies.{none_left}
 use Rattle.lazy_expr.proofs.ValidFills.{map_runs, reduce_runs}
+use Rattle.lazy_expr.proofs.ValidLoops.{loop_closes, loop_middle}
 use Rattle.lazy_expr.proofs.ValidNames.{Holds, IsWord, Stands, both, stands_split}
 use Rattle.lazy_expr.proofs.ValidPaths.{Sub, Tracks, fewer, follow_both, follow_bound, reads_assigned, scalars_assigned}
 use Rattle.lazy_expr.proofs.ValidPaths.{set_more}
@@ -75,99 +76,6 @@ module _ (heads : List Head) (names : List Ty) (kernel : Kernel) (held : Holds n
 
   abbrev End : ℕ → List Statement → Paths → Type 0
   End = Ends heads names kernel held
-
-  -- ---- a loop: its body from what is bound before it, and again from its head
-  module _ (var : ℕ) (lo hi by : Oper) (at : Loc) (body : List Statement) (depth : ℕ) (p : Paths) (b m : Bindings)
-      (numbers : all_numbers names (lo ∷ hi ∷ by ∷ []) ≡ true)
-      (variable : has_type names var (Some (Int64, 0)) ≡ true)
-      (bound : list_all (operand_bound b) (lo ∷ hi ∷ by ∷ []) ≡ true) (t : Follow b p)
-      (within : nat_lt depth 128 ≡ true)
-      (turn : (q : Paths) → Follow (slice_set b var true) q → Mid (depth + 1) body q (slice_set b var true) m) where
-    abbrev counter : ℕ
-    counter = number regs var
-
-    is_word : IsWord kernel regs var (Int64, 0)
-    is_word = held.word var (Int64, 0) (one_given (slice_get names var) (Int64, 0) variable) refl
-
-    with_variable : (q : Paths) → Follow b q → Follow (slice_set b var true) (assign (reg.Word counter ∷ []) q)
-    with_variable q u = follow_bound names kernel held (reg.Word counter) var b q is_word.register is_word.there u
-
-    first_turn : Mid (depth + 1) body (assign (reg.Word counter ∷ []) p) (slice_set b var true) m
-    first_turn = turn (assign (reg.Word counter ∷ []) p) (with_variable p t)
-
-    abbrev at_head : Paths
-    at_head = both_paths p first_turn.after
-
-    follow_head : Follow b at_head
-    follow_head =
-        follow_both names kernel held b p first_turn.after t
-        (fewer names kernel held b m first_turn.after
-        (λ n h. first_turn.more n (set_more b var n h)) first_turn.follow)
-
-    head_is : head counter (block_flow body) p ≡ at_head
-    head_is =
-        ap (kept_by p) first_turn.flows ∙
-        ap (λ (r : Bool). if not r then p else both_paths p first_turn.after) first_turn.follow.reached
-
-    again : Mid (depth + 1) body (assign (reg.Word counter ∷ []) at_head) (slice_set b var true) m
-    again = turn (assign (reg.Word counter ∷ []) at_head) (with_variable at_head follow_head)
-
-    inner_passes : list_all keeps_paths (block_by kernel body (mid (depth + 1))
-        (body_start counter (block_flow (map (λ p. p.0) (map (with_findings kernel) body))) p)) ≡ true
-    inner_passes =
-        ap (λ (xs : List Statement). list_all keeps_paths (block_by kernel body (mid (depth + 1))
-        (body_start counter (block_flow xs) p))) (firsts kernel body) ∙
-        (ap (λ (q : Paths). list_all keeps_paths (block_by kernel body (mid (depth + 1))
-        (assign (reg.Word counter ∷ []) q))) head_is ∙ again.passes)
-
-    read : all_assigned p (opers_regs (opers_of regs (lo ∷ hi ∷ by ∷ []))) ≡ true
-    read =
-        reads_assigned names kernel held p (opers_regs (opers_of regs (lo ∷ hi ∷ by ∷ [])))
-        (scalars_assigned names kernel held b p t (lo ∷ hi ∷ by ∷ [])
-        (numbers_scalar names (lo ∷ hi ∷ by ∷ []) numbers) bound)
-
-    abbrev loop_body : Option (List (Join × ℕ)) → List Statement
-    loop_body omp = loop_of regs counter (oper_of regs lo) (oper_of regs hi) (oper_of regs by) at omp body ∷ []
-
-    loop_middle : (omp : Option (List (Join × ℕ))) → Mid depth (loop_body omp) p b b
-    loop_middle None =
-        let y : l.Statement-F Statement =
-        l.For counter (oper_of regs lo) (oper_of regs hi) (oper_of regs by) at body in
-        let rolls = v.rolls-For counter (oper_of regs lo) (oper_of regs hi) (oper_of regs by) at body in record {
-      after = at_head;
-      passes = one_passes kernel y _ rolls (mid depth) p (both (both read (both within refl)) inner_passes);
-      flows = flow_by y _ rolls p ∙ head_is;
-      follow = follow_head;
-      more = λ n h. h;
-    }
-    loop_middle (Some pairs) =
-        let y : l.Statement-F Statement =
-        l.ParFor counter (oper_of regs lo) (oper_of regs hi) (oper_of regs by) at empty_guard
-        (map (reduction_of regs) pairs) [] body in
-        let rolls = v.rolls-ParFor counter (oper_of regs lo) (oper_of regs hi) (oper_of regs by) at empty_guard
-        (map (reduction_of regs) pairs) [] body in record {
-      after = at_head;
-      passes = one_passes kernel y _ rolls (mid depth) p (both (both read (both within refl)) inner_passes);
-      flows = flow_by y _ rolls p ∙ head_is;
-      follow = follow_head;
-      more = λ n h. h;
-    }
-
-    loop_closes : (omp : Option (List (Join × ℕ))) → closed (loop_body omp) ≡ loop_body omp ++ v.Return [] ∷ []
-    loop_closes None =
-        let y : l.Statement-F Statement =
-        l.For counter (oper_of regs lo) (oper_of regs hi) (oper_of regs by) at body in
-        let rolls = v.rolls-For counter (oper_of regs lo) (oper_of regs hi) (oper_of regs by) at body in
-        ap (λ (s : Statement). (with_end s).1) (sym rolls) ∙
-        (rolled y ∙ ap (λ (s : Statement). s ∷ v.Return [] ∷ []) rolls)
-    loop_closes (Some pairs) =
-        let y : l.Statement-F Statement =
-        l.ParFor counter (oper_of regs lo) (oper_of regs hi) (oper_of regs by) at empty_guard
-        (map (reduction_of regs) pairs) [] body in
-        let rolls = v.rolls-ParFor counter (oper_of regs lo) (oper_of regs hi) (oper_of regs by) at empty_guard
-        (map (reduction_of regs) pairs) [] body in
-        ap (λ (s : Statement). (with_end s).1) (sym rolls) ∙
-        (rolled y ∙ ap (λ (s : Statement). s ∷ v.Return [] ∷ []) rolls)
 
   -- ---- what is proved of a statement, by what is asked of it
   abbrev DoneBy : Bool → List ℕ → Lowering → Walk → Shape → (ℕ → Bool) → Type 0
@@ -420,7 +328,7 @@ module _ (heads : List Head) (names : List Ty) (kernel : Kernel) (held : Holds n
       let plain : Bool = (block_shape (each_shape first_of is_good body)).plain in
       let turn = λ (e : plain ≡ true) (q : Paths) (u : Follow (slice_set b var true) q).
       block_middle first_of is_good body fit n k new (slice_set b var true) turned.0 turned.1 (depth + 1) deep q u e in
-      let whole = λ (e : plain ≡ true). loop_middle var lo hi by at inner depth p b turned.0 (and_left given has two)
+      let whole = λ (e : plain ≡ true). loop_middle heads names kernel held var lo hi by at inner depth p b turned.0 (and_left given has two)
       (and_right given has two) bound t within (turn e) omp in record {
     some = refl;
     middle = λ e. subst (λ (m : Bindings). Mid depth (loop_of regs (number regs var) (oper_of regs lo) (oper_of regs hi)
@@ -429,7 +337,7 @@ module _ (heads : List Head) (names : List Ty) (kernel : Kernel) (held : Holds n
         let e = plain_by kernel.rets plain h in
         open_ends heads names kernel held kernel.rets depth (loop_of regs (number regs var) (oper_of regs lo)
         (oper_of regs hi) (oper_of regs by) at omp inner ∷ []) p plain h (whole e).passes
-        (loop_closes var lo hi by at inner depth p b turned.0 (and_left given has two) (and_right given has two) bound t
+        (loop_closes heads names kernel held var lo hi by at inner depth p b turned.0 (and_left given has two) (and_right given has two) bound t
         within (turn e) omp) refl;
   }
   by_case (c.Return values) f n k new b d w depth s p t =
