@@ -58,7 +58,8 @@ use Rattle.loop_prog.specs.declared.program.TemplateStep.{TemplateStep}
 use Rattle.loop_prog.specs.declared.program.TemplateStep.TheVariants as step
 use Rattle.loop_prog.specs.declared.program.Test.TheVariants.{Filled}
 
-pub reduce_given : (op : RedOp) (t u : Ty) → reduce_type op t ≡ Some u → (u.0 ≡ reduce_kind op t.0) × (is_array u ≡ false)
+pub reduce_given : (op : RedOp) (t u : Ty) → reduce_type op t ≡ Some u → (u.0 ≡ reduce_kind op t.0) × (is_array u ≡
+    false)
 reduce_given op (kind, zero) u h = none_some u h
 reduce_given op (kind, suc r) u h =
     let same : (reduce_kind op kind, 0) ≡ u = some_same (reduce_kind op kind, 0) u h in

@@ -6,7 +6,6 @@ use Rattle.std.proofs.Common.{length-append}
 use Rattle.std.specs.Prelude.{nat_lt, slice_index_or}
 use Rattle.std.specs.List.{flat_map, list_all, range_with_len}
 use Rattle.std.proofs.lemmas.List.{length-map, length-replicate}
-use Rattle.krn_base.specs.declared.kind.Kind.{Kind}
 use Rattle.krn_base.specs.declared.kind.Kind.TheVariants.{Int64}
 use Rattle.krn_base.specs.declared.kind.ParamType.{ParamType}
 use Rattle.krn_base.specs.declared.kind.ParamType.TheVariants.{Scalar, Flat, Strided}
@@ -17,23 +16,20 @@ use Rattle.view_places.specs.declared.shape.Array.{Array}
 use Rattle.view_places.specs.declared.view.View.{View}
 use Rattle.array_ops.specs.Arrays.{array_of}
 use Rattle.array_ops.specs.Elements.{Bound, Unbound, WordOf, ArrayOf}
-use Rattle.eager_rules.specs.Eager.{bind_all, entered}
-use Rattle.eager_rules.specs.Fits.{AreTaken, Takes}
-use Rattle.eager_rules.specs.Kept.{FitsInstance}
+use Rattle.eager_rules.specs.Eager.{bind_all}
+use Rattle.eager_rules.specs.Fits.{AreTaken}
 use Rattle.eager_rules.specs.Outcome.{buffers_of}
-use Rattle.eager_rules.specs.Sound.{Head, IsWellTyped}
 use Rattle.eager_rules.specs.State.{bind, bound_to}
 use Rattle.eager_rules.specs.State.{State as Eager}
 use Rattle.eager_rules.specs.Types.{Ty, is_array, same_kind, same_type, same_types, type_of_param}
 use Rattle.eager_rules.specs.declared.call.Arg.{Arg}
 use Rattle.eager_rules.specs.declared.call.Arg.TheVariants as arg
-use Rattle.eager_rules.specs.declared.call.Call.{Call}
 use Rattle.eager_rules.specs.declared.program.Instance.{Instance}
 use Rattle.lazy_expr.specs.Plain.{plain_kernel, lowered}
-use Rattle.lazy_expr.specs.Promise.{has_ranked_params, is_ranked}
+use Rattle.lazy_expr.specs.Promise.{is_ranked}
 use Rattle.lazy_expr.specs.Table.{is_array_name, register, table_from, table_of, view_types, word_kinds}
 use Rattle.lazy_expr.proofs.Binds.{and_left, and_right, bind_agrees, not_both}
-use Rattle.lazy_expr.proofs.Relation.{Agree, Fitting, IsProper, IsTable, StartsAlike}
+use Rattle.lazy_expr.proofs.Relation.{Agree, Fitting, IsProper, StartsAlike}
 use Rattle.lazy_expr.proofs.Table.{is_table, table_view, table_word}
 use Rattle.loop_prog.specs.Serial.{no_counts, param_regs}
 use Rattle.loop_prog.specs.Serial.{entered as entered_kernel}
@@ -179,7 +175,8 @@ ranked n e = by_test (eqb n 0) refl
     by_test false q = ap not q
     by_test true q = absurd (omega (arith, eqb-true n 0 q, ltb-true 0 n e))
 
-pub placed : (all : List Ty) (k words views : ℕ) (names : List Ty) (types : List ParamType) → Left all k words views names →
+pub placed : (all : List Ty) (k words views : ℕ) (names : List Ty) (types : List ParamType) → Left all k words views
+    names →
     same_types (take (length types) names) (map type_of_param types) ≡ true → list_all is_ranked types ≡ true →
     Placed all k words views types
 placed all k words views names [] left same ranks = tt

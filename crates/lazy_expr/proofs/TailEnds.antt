@@ -3,13 +3,11 @@
 use Rattle.std.proofs.Common.{◌≡◌, ◌∙◌, ap, ap₂, sym, subst, refl, ℕ, zero, suc, ℤ, pos, negsuc}
 use Rattle.std.proofs.Common.{List, [], ◌∷◌, ◌++◌, map}
 use Rattle.krn_base.specs.declared.kind.Kind.{Kind}
-use Rattle.array_ops.specs.Elements.{Bound}
-use Rattle.eager_rules.specs.Blocks.{Meaning, End, GoesOn, Returned, Faulted, Stuck, choice, in_order, then_do}
+use Rattle.eager_rules.specs.Blocks.{Meaning, End, GoesOn, Returned, Faulted, Stuck, choice, then_do}
 use Rattle.eager_rules.specs.Types.{Ty}
-use Rattle.eager_rules.specs.declared.outcome.Outcome.{Outcome}
 use Rattle.eager_rules.specs.declared.program.Oper.{Oper}
 use Rattle.lazy_expr.specs.Lowered.{closing_in}
-use Rattle.lazy_expr.specs.Plain.{Closing, close_pairs, closed, closed_for, last_step, with_end}
+use Rattle.lazy_expr.specs.Plain.{Closing, closed, closed_for, last_step, with_end}
 use Rattle.loop_prog.specs.Serial.{block, ended, meaning, statement, word_at_operand}
 use Rattle.loop_prog.specs.State.{State}
 use Rattle.loop_prog.specs.declared.program.Statement.{Statement, out-Statement}

@@ -1,13 +1,13 @@
 -- Lowered statements keep the rules on registers, kinds, ranks and templates: one case for each kind of statement, and
 -- the induction over blocks.
-use Rattle.std.proofs.Common.{◌≡◌, ◌∙◌, ap, ap₂, sym, subst, refl, ℕ, ◌+◌, Bool, true, ◌&&◌, List, [], ◌∷◌, ◌++◌, map}
-use Rattle.std.proofs.Common.{length, Option, Some, None, arith, zero, suc, ◌<◌, false, not}
+use Rattle.std.proofs.Common.{◌≡◌, ◌∙◌, ap, sym, subst, refl, ℕ, ◌+◌, Bool, true, ◌&&◌, List, [], ◌∷◌, ◌++◌, map}
+use Rattle.std.proofs.Common.{length, Option, Some, None, arith, zero, suc, false}
 use Rattle.std.specs.Prelude.{slice_get, slice_index_or, nat_le, nat_lt}
 use Rattle.std.specs.List.{flat_map, list_all, list_any}
 use Rattle.std.proofs.lemmas.Bool.{lt-ltb}
 use Rattle.std.proofs.lemmas.Option.{get_or_from_slice_get}
 use Rattle.std.proofs.lemmas.Grind.{flat_map-append}
-use Rattle.std.proofs.lemmas.List.Folds.{list_all-append, list_all-map}
+use Rattle.std.proofs.lemmas.List.Folds.{list_all-append}
 use Rattle.krn_base.specs.declared.kind.Kind.{Kind}
 use Rattle.krn_base.specs.declared.kind.Kind.TheVariants.{Int64, Bool as Boolean}
 use Rattle.krn_base.specs.declared.operation.Join.{Join}
@@ -24,10 +24,10 @@ use Rattle.eager_rules.specs.declared.program.Core.TheViews.{roll-Core}
 use Rattle.eager_rules.specs.declared.program.Oper.{Oper}
 use Rattle.lazy_expr.specs.Plain.{lower_map, map_into, map_steps, names_it}
 use Rattle.lazy_expr.specs.Plain.{Lowering, empty_guard, in_turn, loop_of, lowered, plain_of, plain_step, reduction_of}
-use Rattle.lazy_expr.specs.Table.{number, oper_of, opers_of, table_of, view_types}
-use Rattle.lazy_expr.proofs.ValidRules.{all_local, is_local, local_at, local_step}
+use Rattle.lazy_expr.specs.Table.{number, oper_of, table_of, view_types}
+use Rattle.lazy_expr.proofs.ValidRules.{all_local, is_local}
 use Rattle.lazy_expr.proofs.Binds.{and_left, and_right, not_both}
-use Rattle.lazy_expr.proofs.Operands.{none_some, one_given, some_given, some_same, truth_scalar, truth_type, typed_name}
+use Rattle.lazy_expr.proofs.Operands.{none_some, some_given, some_same, truth_scalar, truth_type, typed_name}
 use Rattle.lazy_expr.proofs.Templates.{map_given}
 use Rattle.lazy_expr.proofs.Trees.{Good, by_layers, fused}
 use Rattle.lazy_expr.proofs.ValidFolds.{reduce_local}
@@ -35,7 +35,7 @@ use Rattle.lazy_expr.proofs.ValidNames.{Holds, Stands, both, numbers_there, scal
 use Rattle.lazy_expr.proofs.ValidStatements.{alias_local, extent_local, flip_local, fresh_local, get_local, local_by}
 use Rattle.lazy_expr.proofs.ValidStatements.{lower_map_local, number_kind, pick_local, put_local, return_local}
 use Rattle.lazy_expr.proofs.ValidStatements.{store_local, word_local}
-use Rattle.loop_prog.specs.Conditions.{is_there, oper_kind, word_kind}
+use Rattle.loop_prog.specs.Conditions.{is_there}
 use Rattle.loop_prog.specs.Check.{is_rank}
 use Rattle.loop_prog.specs.declared.program.Kernel.{Kernel}
 use Rattle.loop_prog.specs.declared.program.Reg.{Reg}
@@ -121,7 +121,8 @@ module _ (heads : List Head) (names : List Ty) (limits : list_all (λ t. nat_le 
       let is = number_kind kernel names held var Int64 variable in
       both (local_by kernel (l.For (number regs var) (oper_of regs lo) (oper_of regs hi) (oper_of regs by) at body) _
       (v.rolls-For (number regs var) (oper_of regs lo) (oper_of regs hi) (oper_of regs by) at body)
-      (both (both (both (both (numbers_there names kernel held (lo ∷ hi ∷ by ∷ []) numbers) (both (both is.0 refl) refl))
+      (both (both (both (both (numbers_there names kernel held (lo ∷ hi ∷ by ∷ []) numbers) (both (both is.0 refl)
+      refl))
       (ap (λ (k : Kind). same_kind k Int64) is.1)) refl) (inner_local kernel body h))) refl
   for_local var lo hi by at (Some given) body numbers variable pairs h =
       let is = number_kind kernel names held var Int64 variable in

@@ -5,7 +5,7 @@ use Rattle.std.specs.List.{list_all}
 use Rattle.std.proofs.lemmas.List.Folds.{list_all-append}
 use Rattle.eager_rules.specs.Types.{Ty, same_types}
 use Rattle.lazy_expr.specs.Lowered.{closing_in}
-use Rattle.lazy_expr.specs.Plain.{Closing, closed, closed_for, with_end}
+use Rattle.lazy_expr.specs.Plain.{closed, closed_for, with_end}
 use Rattle.lazy_expr.proofs.ValidRules.{all_local, is_local, keeps_local, local_at, local_step}
 use Rattle.lazy_expr.proofs.Binds.{and_left, and_right}
 use Rattle.lazy_expr.proofs.TailEnds.{rolled}
@@ -14,7 +14,6 @@ use Rattle.lazy_expr.proofs.ValidNames.{both}
 use Rattle.lazy_expr.proofs.ValidStatements.{local_by}
 use Rattle.loop_prog.specs.Check.{Findings, before_rest, block_findings, findings, findings_step, with_findings}
 use Rattle.loop_prog.specs.Paths.{flow}
-use Rattle.loop_prog.specs.declared.kept.Kept.{Kept}
 use Rattle.loop_prog.specs.declared.kept.Site.{Site}
 use Rattle.loop_prog.specs.declared.paths.Paths.{Paths}
 use Rattle.loop_prog.specs.declared.program.Kernel.{Kernel}
@@ -40,20 +39,21 @@ module _ (kernel : Kernel) where
   mapped_local xs h = mapped_all (is_local kernel) xs ∙ h
 
   module _ (cond : _) (part other : List Statement) (h : is_local kernel (roll-Statement (l.If cond part other)) ≡ true)
-      where
-    both_parts : (local_at kernel (l.If cond part other) ≡ true) × (all_local kernel part ≡ true) ×
-        (all_local kernel other ≡ true)
-    both_parts =
-        let here : Bool = local_at kernel (l.If cond part other) in
-        let parts : Bool = list_all (λ b. b) (map (is_local kernel) part ++ map (is_local kernel) other) in
-        let split = sym (list_all-append (λ (b : Bool). b) (map (is_local kernel) part) (map (is_local kernel) other)) ∙
-        and_right here parts (opened (l.If cond part other) h) in (
-          and_left here parts (opened (l.If cond part other) h),
-          inner_local part (and_left (list_all (λ b. b) (map (is_local kernel) part))
-              (list_all (λ b. b) (map (is_local kernel) other)) split),
-          inner_local other (and_right (list_all (λ b. b) (map (is_local kernel) part))
-              (list_all (λ b. b) (map (is_local kernel) other)) split),
-        )
+    where
+      both_parts : (local_at kernel (l.If cond part other) ≡ true) × (all_local kernel part ≡ true) ×
+          (all_local kernel other ≡ true)
+      both_parts =
+          let here : Bool = local_at kernel (l.If cond part other) in
+          let parts : Bool = list_all (λ b. b) (map (is_local kernel) part ++ map (is_local kernel) other) in
+          let split = sym (list_all-append (λ (b : Bool). b) (map (is_local kernel) part) (map (is_local kernel)
+          other)) ∙
+          and_right here parts (opened (l.If cond part other) h) in (
+            and_left here parts (opened (l.If cond part other) h),
+            inner_local part (and_left (list_all (λ b. b) (map (is_local kernel) part))
+                (list_all (λ b. b) (map (is_local kernel) other)) split),
+            inner_local other (and_right (list_all (λ b. b) (map (is_local kernel) part))
+                (list_all (λ b. b) (map (is_local kernel) other)) split),
+          )
 
   -- ---- closed blocks
   module _ (none : kernel.rets ≡ []) where
@@ -166,7 +166,8 @@ module _ (kernel : Kernel) where
   finds_one here inner h = both (and_left here inner h) refl
 
   by_finding : (y : l.Statement-F Found) →
-      local_step kernel (map-Statement Statement Bool (is_local kernel) (map-Statement Found Statement named y)) ≡ true →
+      local_step kernel (map-Statement Statement Bool (is_local kernel) (map-Statement Found Statement named y)) ≡
+      true →
       (site : Site) (paths : Paths) →
       list_all keeps_local (findings_step kernel (map-Statement Statement (Statement × Findings) (with_findings kernel)
       (map-Statement Found Statement named y)) site paths) ≡ true

@@ -1,5 +1,5 @@
 -- The rules on assignments, nesting and returns for element operations and reductions, in plain form.
-use Rattle.std.proofs.Common.{◌≡◌, ◌∙◌, ap, subst, refl, ℕ, Bool, true, false, List, [], ◌∷◌, ◌++◌, map}
+use Rattle.std.proofs.Common.{◌≡◌, refl, ℕ, Bool, true, false, List, [], ◌∷◌, map}
 use Rattle.std.specs.Prelude.{slice_set, slice_index_or}
 use Rattle.std.specs.List.{flat_map, list_all, list_any}
 use Rattle.krn_base.specs.declared.kind.Kind.TheVariants.{Int64}
@@ -13,7 +13,8 @@ use Rattle.eager_rules.specs.Types.{Ty, map_type, reduce_type, types_of}
 use Rattle.eager_rules.specs.declared.program.Oper.{Oper}
 use Rattle.eager_rules.specs.declared.program.Oper.TheVariants as oper
 use Rattle.lazy_expr.specs.Lowered.{reduced}
-use Rattle.lazy_expr.specs.Plain.{fold_steps, join_of, lower_map, map_into, map_steps, names_it, operation_step, template}
+use Rattle.lazy_expr.specs.Plain.{fold_steps, join_of, lower_map, map_into, map_steps, names_it, operation_step}
+use Rattle.lazy_expr.specs.Plain.{template}
 use Rattle.lazy_expr.specs.Table.{number, register, table_of}
 use Rattle.lazy_expr.proofs.Binds.{and_left, and_right}
 use Rattle.lazy_expr.proofs.Operands.{array_named_given, some_given, typed_name}
@@ -22,7 +23,7 @@ use Rattle.lazy_expr.proofs.Templates.{map_given}
 use Rattle.lazy_expr.proofs.ValidNames.{Holds, Stands, both}
 use Rattle.lazy_expr.proofs.ValidPaths.{Tracks, assigned_here, assigned_still, follow_bound, follow_new, reads_assigned}
 use Rattle.lazy_expr.proofs.ValidPaths.{set_more, steps_assigned, view_assigned}
-use Rattle.lazy_expr.proofs.ValidSteps.{Leaves, Runs, binds_one, runs_more, runs_one}
+use Rattle.lazy_expr.proofs.ValidSteps.{Leaves, Runs, runs_more, runs_one}
 use Rattle.loop_prog.specs.Conditions.{is_there}
 use Rattle.loop_prog.specs.Paths.{assign, is_assigned}
 use Rattle.loop_prog.specs.Statements.{step_regs}
@@ -54,41 +55,43 @@ module _ (kernel : Kernel) (names : List Ty) (held : Holds names kernel) (depth 
   -- a new buffer for a register, filled by a template whose registers are assigned, and what follows
   module _ (into : ℕ) (steps : List TemplateStep) (at : Loc) (there : is_there kernel (reg.View into) ≡ true)
       (read : assigned p (flat_map step_regs steps) ≡ true) (views : assigned p (map reg.View (leaves steps)) ≡ true)
-      where
-    abbrev filled : Paths
-    filled = assign (reg.View into ∷ []) p
+    where
+      abbrev filled : Paths
+      filled = assign (reg.View into ∷ []) p
 
-    here : is_assigned filled (reg.View into) ≡ true
-    here = assigned_here names kernel held (reg.View into) b p there t
+      here : is_assigned filled (reg.View into) ≡ true
+      here = assigned_here names kernel held (reg.View into) b p there t
 
-    before : (q : Paths) (rest : List Statement) → Runs kernel depth rest filled q →
-        Runs kernel depth (v.Check Fits (leaves steps) at ∷ v.Like into (leaves steps) at ∷ rest) p q
-    before q rest runs =
-        runs_more kernel (l.Check Fits (leaves steps) at) _ (v.rolls-Check Fits (leaves steps) at) depth p p q _
-        (both (both (reads_assigned names kernel held p (map reg.View (leaves steps)) views) refl) refl) refl
-        (runs_more kernel (l.Like into (leaves steps) at) _ (v.rolls-Like into (leaves steps) at) depth p filled q rest
-        (both (both (reads_assigned names kernel held p (map reg.View (leaves steps)) views) refl) refl) refl runs)
+      before : (q : Paths) (rest : List Statement) → Runs kernel depth rest filled q →
+          Runs kernel depth (v.Check Fits (leaves steps) at ∷ v.Like into (leaves steps) at ∷ rest) p q
+      before q rest runs =
+          runs_more kernel (l.Check Fits (leaves steps) at) _ (v.rolls-Check Fits (leaves steps) at) depth p p q _
+          (both (both (reads_assigned names kernel held p (map reg.View (leaves steps)) views) refl) refl) refl
+          (runs_more kernel (l.Like into (leaves steps) at) _ (v.rolls-Like into (leaves steps) at) depth p filled q
+          rest
+          (both (both (reads_assigned names kernel held p (map reg.View (leaves steps)) views) refl) refl) refl runs)
 
-    nest_assigned : assigned filled (reg.View into ∷ flat_map step_regs steps) ≡ true
-    nest_assigned = both here (still (reg.View into) (flat_map step_regs steps) read)
+      nest_assigned : assigned filled (reg.View into ∷ flat_map step_regs steps) ≡ true
+      nest_assigned = both here (still (reg.View into) (flat_map step_regs steps) read)
 
-    filled_runs : Runs kernel depth (v.Check Fits (leaves steps) at ∷ v.Like into (leaves steps) at ∷
-        v.Nest into (template steps) at ∷ []) p filled
-    filled_runs =
-        before filled _ (runs_one kernel (l.Nest into (template steps) at) _ (v.rolls-Nest into (template steps) at) depth
-        filled filled (both (both (reads_assigned names kernel held filled
-        (reg.View into ∷ flat_map step_regs steps) nest_assigned) refl) refl) refl refl)
+      filled_runs : Runs kernel depth (v.Check Fits (leaves steps) at ∷ v.Like into (leaves steps) at ∷
+          v.Nest into (template steps) at ∷ []) p filled
+      filled_runs =
+          before filled _ (runs_one kernel (l.Nest into (template steps) at) _ (v.rolls-Nest into (template steps)
+          at) depth
+          filled filled (both (both (reads_assigned names kernel held filled
+          (reg.View into ∷ flat_map step_regs steps) nest_assigned) refl) refl) refl refl)
 
-    moved_runs : (to : ℕ) → Runs kernel depth (v.Check Fits (leaves steps) at ∷ v.Like into (leaves steps) at ∷
-        v.Nest into (template steps) at ∷ v.Same to into ∷ []) p (assign (reg.View to ∷ []) filled)
-    moved_runs to =
-        before (assign (reg.View to ∷ []) filled) _
-        (runs_more kernel (l.Nest into (template steps) at) _ (v.rolls-Nest into (template steps) at) depth
-        filled filled (assign (reg.View to ∷ []) filled) _ (both (both (reads_assigned names kernel held filled
-        (reg.View into ∷ flat_map step_regs steps) nest_assigned) refl) refl) refl
-        (runs_one kernel (l.Same to into) _ (v.rolls-Same to into) depth filled (assign (reg.View to ∷ []) filled)
-        (both (both (reads_assigned names kernel held filled (reg.View into ∷ []) (both here refl)) refl) refl) refl
-        refl))
+      moved_runs : (to : ℕ) → Runs kernel depth (v.Check Fits (leaves steps) at ∷ v.Like into (leaves steps) at ∷
+          v.Nest into (template steps) at ∷ v.Same to into ∷ []) p (assign (reg.View to ∷ []) filled)
+      moved_runs to =
+          before (assign (reg.View to ∷ []) filled) _
+          (runs_more kernel (l.Nest into (template steps) at) _ (v.rolls-Nest into (template steps) at) depth
+          filled filled (assign (reg.View to ∷ []) filled) _ (both (both (reads_assigned names kernel held filled
+          (reg.View into ∷ flat_map step_regs steps) nest_assigned) refl) refl) refl
+          (runs_one kernel (l.Same to into) _ (v.rolls-Same to into) depth filled (assign (reg.View to ∷ []) filled)
+          (both (both (reads_assigned names kernel held filled (reg.View into ∷ []) (both here refl)) refl) refl) refl
+          refl))
 
   map_leaves : (own : Bool) (u : Ty) (to k : ℕ) (steps : List TemplateStep) (at : Loc) →
       register regs to ≡ reg.View (number regs to) → is_there kernel (reg.View (number regs to)) ≡ true →
@@ -175,9 +178,9 @@ module _ (kernel : Kernel) (names : List Ty) (held : Holds names kernel) (depth 
       let array = array_named_given names of (λ t. has_type names to (reduce_type op t)) f in
       let named = typed_name names to (reduce_type op array.0) array.3 in
       let is = held.word to named.0 named.2 (reduce_given op array.0 named.0 named.1).1 in record {
-    after = assign (reg.Word (number regs to) ∷ []) p;
-    runs = reduced_runs to of at is.register is.there
-        (view_assigned names kernel held b p t of array.0 array.1 array.2 (and_left (bound_in b of) true bound)) op;
-    follow = follow_bound names kernel held (reg.Word (number regs to)) to b p is.register is.there t;
-    more = set_more b to;
-  }
+        after = assign (reg.Word (number regs to) ∷ []) p;
+        runs = reduced_runs to of at is.register is.there
+            (view_assigned names kernel held b p t of array.0 array.1 array.2 (and_left (bound_in b of) true bound)) op;
+        follow = follow_bound names kernel held (reg.Word (number regs to)) to b p is.register is.there t;
+        more = set_more b to;
+      }

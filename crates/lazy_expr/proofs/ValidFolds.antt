@@ -1,6 +1,5 @@
 -- The rules on registers, kinds, ranks and templates for a reduction's fold.
-use Rattle.std.proofs.Common.{◌≡◌, ◌∙◌, ap, ap₂, subst, refl, ℕ, Bool, true, List, [], ◌∷◌, ◌++◌}
-use Rattle.std.specs.List.{list_all}
+use Rattle.std.proofs.Common.{◌≡◌, ◌∙◌, ap₂, refl, ℕ, true, List, [], ◌∷◌}
 use Rattle.std.proofs.lemmas.List.Folds.{list_all-append}
 use Rattle.krn_base.specs.declared.kind.Kind.{Kind}
 use Rattle.krn_base.specs.declared.kind.Kind.TheVariants.{Int64, Bool as Boolean}
@@ -20,11 +19,9 @@ use Rattle.lazy_expr.proofs.Reductions.{reduce_given}
 use Rattle.lazy_expr.proofs.ValidNames.{Holds, both}
 use Rattle.lazy_expr.proofs.ValidStatements.{check_local, local_by}
 use Rattle.lazy_expr.proofs.ValidTemplates.{Makes, leaf_step, makes_one, makes_some, makes_un}
-use Rattle.loop_prog.specs.Conditions.{Kinds, Stack, fold_takes, is_there, may_join, some_views, template_stack}
+use Rattle.loop_prog.specs.Conditions.{Kinds, Stack, fold_takes, is_there, may_join}
 use Rattle.loop_prog.specs.Conditions.{view_type, word_kind}
-use Rattle.loop_prog.specs.Templates.{leaves}
 use Rattle.loop_prog.specs.declared.program.Kernel.{Kernel}
-use Rattle.loop_prog.specs.declared.program.Reg.{Reg}
 use Rattle.loop_prog.specs.declared.program.Reg.TheVariants as reg
 use Rattle.loop_prog.specs.declared.program.Statement.TheOpen as l
 use Rattle.loop_prog.specs.declared.program.Statement.TheVariants as v
@@ -92,7 +89,8 @@ module _ (kernel : Kernel) (view : ℕ) (t : Ty) (there : is_there kernel (reg.V
       takes_kind (join_of op) (reduce_kind op t.0) (element_kind op t.0) (element_joins op t.0)))
       (both refl (both (makes_some kernel (element_kind op t.0, t.1) steps makes array) makes.fit))) refl)) refl)
 
-pub reduce_local : (kernel : Kernel) (names : List Ty) → Holds names kernel → (to : ℕ) (op : RedOp) (of : ℕ) (at : Loc) →
+pub reduce_local : (kernel : Kernel) (names : List Ty) → Holds names kernel → (to : ℕ) (op : RedOp) (of : ℕ) (at :
+    Loc) →
     given_types (array_named names of) (λ t. has_type names to (reduce_type op t)) ≡ true →
     all_local kernel (reduced (number (table_of names) to) op (number (table_of names) of) at) ≡ true
 reduce_local kernel names held to op of at f =
@@ -101,5 +99,6 @@ reduce_local kernel names held to op of at f =
     let named = typed_name names to (reduce_type op array.0) array.3 in
     let given = reduce_given op array.0 named.0 named.1 in
     let to_is = held.word to named.0 named.2 given.1 in
-    reduced_local kernel (number (table_of names) of) array.0 is.there is.type op (number (table_of names) to) at array.2
+    reduced_local kernel (number (table_of names) of) array.0 is.there is.type op (number (table_of names) to) at
+    array.2
     to_is.there (to_is.kind ∙ given.0)

@@ -1,25 +1,23 @@
 -- Plain kernels keep the rules on registers, kinds, ranks and templates: their parameters, their registers' ranks and
 -- their statements.
-use Rattle.std.proofs.Common.{◌≡◌, ◌∙◌, ap, ap₂, sym, subst, refl, arith, ℕ, zero, suc, ◌+◌, ◌<◌, Bool, true, false, not}
-use Rattle.std.proofs.Common.{◌&&◌, List, [], ◌∷◌, ◌++◌, map, length, take, Option, Some, eq-eqb, eqb-true}
+use Rattle.std.proofs.Common.{◌≡◌, ◌∙◌, ap, ap₂, sym, subst, refl, arith, ℕ, zero, suc, ◌+◌, Bool, true, false, not}
+use Rattle.std.proofs.Common.{◌&&◌, List, [], ◌∷◌, ◌++◌, map, length, take, eq-eqb}
 use Rattle.std.proofs.Common.{length-append}
 use Rattle.std.proofs.lemmas.List.{length-map}
-use Rattle.std.specs.Prelude.{slice_get, slice_index_or, nat_le, nat_lt, ◌==◌, if◌then◌else◌}
-use Rattle.std.specs.List.{flat_map, list_all, list_any, zip}
+use Rattle.std.specs.Prelude.{slice_index_or, nat_le, nat_lt, ◌==◌, if◌then◌else◌}
+use Rattle.std.specs.List.{list_all, list_any, zip}
 use Rattle.std.proofs.lemmas.Bool.{lt-ltb}
 use Rattle.std.proofs.lemmas.List.Folds.{flat_map-map, list_all-append}
-use Rattle.std.proofs.lemmas.Option.{get_or_from_slice_get, slice_get_within}
 use Rattle.krn_base.specs.declared.kind.Kind.{Kind}
 use Rattle.krn_base.specs.declared.kind.Kind.TheVariants.{Int64}
 use Rattle.krn_base.specs.declared.kind.ParamType.{ParamType}
 use Rattle.krn_base.specs.declared.kind.ParamType.TheVariants.{Scalar, Flat, Strided}
-use Rattle.eager_rules.specs.Sound.{Head, IsSound, IsWellTyped, head_of}
+use Rattle.eager_rules.specs.Sound.{Head, IsWellTyped}
 use Rattle.eager_rules.specs.Statements.{calls_of, calls_step}
 use Rattle.eager_rules.specs.Types.{Ty, is_array, same_kind, same_type, same_types, type_of_param}
 use Rattle.eager_rules.specs.declared.program.Core.TheFolds.{fold-Core}
 use Rattle.eager_rules.specs.declared.program.Instance.{Instance}
-use Rattle.eager_rules.specs.declared.program.Program.{Program}
-use Rattle.lazy_expr.specs.Plain.{closed_for, lowered, plain_kernel}
+use Rattle.lazy_expr.specs.Plain.{lowered, plain_kernel}
 use Rattle.lazy_expr.specs.Promise.{has_ranked_params, is_flat, is_ranked}
 use Rattle.lazy_expr.specs.Table.{view_types, word_kinds}
 use Rattle.lazy_expr.proofs.ValidRules.{all_local, keeps_local}
@@ -31,7 +29,7 @@ use Rattle.lazy_expr.proofs.ValidBodies.{all_ranked, body_local}
 use Rattle.lazy_expr.proofs.ValidEnds.{closed_for_local, found_local}
 use Rattle.lazy_expr.proofs.ValidNames.{Stands, both, holds, stands, stands_from, stands_split}
 use Rattle.lazy_expr.proofs.ValidTypes.{kind_itself}
-use Rattle.loop_prog.specs.Check.{both_keep, is_rank, kernel_findings, kernel_keeps, param_is_ranked, param_kind, same_head}
+use Rattle.loop_prog.specs.Check.{is_rank, kernel_findings, kernel_keeps, param_is_ranked, param_kind, same_head}
 use Rattle.loop_prog.specs.Check.{body_findings, param_rank, with_own}
 use Rattle.loop_prog.specs.Conditions.{is_there, view_type, word_kind}
 use Rattle.loop_prog.specs.Paths.{at_start}
@@ -55,10 +53,11 @@ words_from : (kernel : Kernel) (before kinds : List Kind) → kernel.regs ≡ be
 words_from kernel before [] words = tt
 words_from kernel before (k ∷ kinds) words =
     let size : length (before ++ k ∷ []) ≡ length before + 1 = length-append before (k ∷ []) in
-    let whole : length (before ++ k ∷ kinds) ≡ length before + length (k ∷ kinds) = length-append before (k ∷ kinds) in (
+    let whole : length (before ++ k ∷ kinds) ≡ length before + length (k ∷ kinds) = length-append before (k ∷ kinds)
+    in (
       (
         ap (λ (ks : List Kind). nat_lt (length before) (length ks)) words ∙
-        lt-ltb (length before) (length (before ++ k ∷ kinds)) (omega (arith, whole)),
+            lt-ltb (length before) (length (before ++ k ∷ kinds)) (omega (arith, whole)),
         ap (λ (ks : List Kind). slice_index_or ks (length before) Int64) words ∙ seam before,
       ),
       subst (λ (r : ℕ). WordsStand kernel r kinds) size

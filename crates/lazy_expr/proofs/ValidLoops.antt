@@ -1,49 +1,29 @@
 -- Plain loops keep the rules on assignments, nesting and returns where their bodies do.
-use Rattle.std.proofs.Common.{◌≡◌, ◌∙◌, ap, ap₂, sym, subst, refl, ℕ, ◌+◌, Bool, true, false, not, ◌&&◌, ◌||◌}
-use Rattle.std.proofs.Common.{List, [], ◌∷◌, ◌++◌, map, length, Option, Some, None}
+use Rattle.std.proofs.Common.{◌≡◌, ◌∙◌, ap, sym, refl, ℕ, ◌+◌, Bool, true, not}
+use Rattle.std.proofs.Common.{List, [], ◌∷◌, ◌++◌, map, Option, Some, None}
 use Rattle.std.specs.Prelude.{slice_get, slice_set, nat_lt, if◌then◌else◌}
-use Rattle.std.specs.List.{flat_map, list_all}
-use Rattle.std.proofs.lemmas.Grind.{flat_map-append}
-use Rattle.std.proofs.lemmas.List.Folds.{list_all-append}
+use Rattle.std.specs.List.{list_all}
 use Rattle.krn_base.specs.declared.kind.Kind.TheVariants.{Int64}
 use Rattle.krn_base.specs.declared.operation.Join.{Join}
 use Rattle.krn_base.specs.declared.place.Loc.{Loc}
-use Rattle.eager_rules.specs.Sound.{Bindings, Head, Shape, all_fit, all_numbers, block_shape, both_shapes, fits, fits_step}
-use Rattle.eager_rules.specs.Sound.{given_types, has_type, in_walk, names_fit, next, operand_bound, put_all}
-use Rattle.eager_rules.specs.Sound.{reduction_fits, returns_values, shape_of_body, shape_step, simple, stay, tested, walk}
-use Rattle.eager_rules.specs.Sound.{walk_step}
-use Rattle.eager_rules.specs.Sound.{both as both_walks, meet as core_meet}
-use Rattle.eager_rules.specs.Statements.{calls_step}
-use Rattle.eager_rules.specs.Types.{Ty, is_truth, type_of}
-use Rattle.eager_rules.specs.Works.{sub_operands}
-use Rattle.eager_rules.specs.declared.program.Core.{Core}
-use Rattle.eager_rules.specs.declared.program.Core.TheOpen as c
-use Rattle.eager_rules.specs.declared.program.Core.TheFolds.{fold-Core, fold-roll-Core, map-Core}
-use Rattle.eager_rules.specs.declared.program.Core.TheViews.{roll-Core}
+use Rattle.eager_rules.specs.Sound.{Bindings, Head, Shape, all_numbers}
+use Rattle.eager_rules.specs.Sound.{has_type, operand_bound}
+use Rattle.eager_rules.specs.Types.{Ty}
 use Rattle.eager_rules.specs.declared.program.Oper.{Oper}
-use Rattle.eager_rules.specs.declared.program.Oper.TheVariants as oper
-use Rattle.lazy_expr.specs.Plain.{Lowering, closed, closed_for, empty_guard, in_turn, loop_of, lowered, plain_of, plain_step}
+use Rattle.lazy_expr.specs.Plain.{closed, empty_guard, loop_of}
 use Rattle.lazy_expr.specs.Plain.{reduction_of, with_end}
-use Rattle.lazy_expr.specs.Table.{number, oper_of, opers_of, table_of, view_types}
-use Rattle.lazy_expr.specs.Valid.{shallow_step}
+use Rattle.lazy_expr.specs.Table.{number, oper_of, opers_of, table_of}
 use Rattle.lazy_expr.proofs.ValidRules.{keeps_paths}
-use Rattle.lazy_expr.proofs.Binds.{and_left, and_right, not_both}
-use Rattle.lazy_expr.proofs.Operands.{numbers_scalar, one_given, some_same}
+use Rattle.lazy_expr.proofs.Operands.{numbers_scalar, one_given}
 use Rattle.lazy_expr.proofs.TailEnds.{rolled}
-use Rattle.lazy_expr.proofs.Trees.{Good, by_layers, fused}
-use Rattle.lazy_expr.proofs.ValidBlocks.{closed_for_joined, firsts, flow_joined, last, nothing_more, passes_last}
-use Rattle.lazy_expr.proofs.ValidBlocks.{passes_mid, some_joined}
-use Rattle.lazy_expr.proofs.ValidBodies.{none_left}
-use Rattle.lazy_expr.proofs.ValidFills.{map_runs, reduce_runs}
-use Rattle.lazy_expr.proofs.ValidNames.{Holds, IsWord, Stands, both, stands_split}
-use Rattle.lazy_expr.proofs.ValidPaths.{Sub, Tracks, fewer, follow_both, follow_bound, reads_assigned, scalars_assigned}
+use Rattle.lazy_expr.proofs.ValidBlocks.{firsts}
+use Rattle.lazy_expr.proofs.ValidNames.{Holds, IsWord, both}
+use Rattle.lazy_expr.proofs.ValidPaths.{Tracks, fewer, follow_both, follow_bound, reads_assigned, scalars_assigned}
 use Rattle.lazy_expr.proofs.ValidPaths.{set_more}
-use Rattle.lazy_expr.proofs.ValidSteps.{Passes, alias_runs, extent_runs, flip_runs, flow_by, fresh_runs, get_runs, mid}
-use Rattle.lazy_expr.proofs.ValidSteps.{one_passes, pick_runs, put_runs, store_runs, word_runs}
-use Rattle.lazy_expr.proofs.ValidWalks.{Done, Ends, Middle, Walk, behind_plain, both_given, first_plain, if_ends}
-use Rattle.lazy_expr.proofs.ValidWalks.{if_middle, leaf_case, next_given, open_ends, parts_return, return_done}
-use Rattle.lazy_expr.proofs.ValidWalks.{return_passes, stay_given, tested_given}
-use Rattle.loop_prog.specs.Check.{has_some, with_findings}
+use Rattle.lazy_expr.proofs.ValidSteps.{flow_by, mid}
+use Rattle.lazy_expr.proofs.ValidSteps.{one_passes}
+use Rattle.lazy_expr.proofs.ValidWalks.{Done, Ends, Middle}
+use Rattle.loop_prog.specs.Check.{with_findings}
 use Rattle.loop_prog.specs.Judging.{block_by}
 use Rattle.loop_prog.specs.Paths.{all_assigned, assign, block_flow, body_start, both_paths, head, kept_by}
 use Rattle.loop_prog.specs.Statements.{opers_regs}
@@ -129,24 +109,24 @@ module _ (heads : List Head) (names : List Ty) (kernel : Kernel) (held : Holds n
         let y : l.Statement-F Statement =
         l.For counter (oper_of regs lo) (oper_of regs hi) (oper_of regs by) at body in
         let rolls = v.rolls-For counter (oper_of regs lo) (oper_of regs hi) (oper_of regs by) at body in record {
-      after = at_head;
-      passes = one_passes kernel y _ rolls (mid depth) p (both (both read (both within refl)) inner_passes);
-      flows = flow_by y _ rolls p ∙ head_is;
-      follow = follow_head;
-      more = λ n h. h;
-    }
+          after = at_head;
+          passes = one_passes kernel y _ rolls (mid depth) p (both (both read (both within refl)) inner_passes);
+          flows = flow_by y _ rolls p ∙ head_is;
+          follow = follow_head;
+          more = λ n h. h;
+        }
     loop_middle (Some pairs) =
         let y : l.Statement-F Statement =
         l.ParFor counter (oper_of regs lo) (oper_of regs hi) (oper_of regs by) at empty_guard
         (map (reduction_of regs) pairs) [] body in
         let rolls = v.rolls-ParFor counter (oper_of regs lo) (oper_of regs hi) (oper_of regs by) at empty_guard
         (map (reduction_of regs) pairs) [] body in record {
-      after = at_head;
-      passes = one_passes kernel y _ rolls (mid depth) p (both (both read (both within refl)) inner_passes);
-      flows = flow_by y _ rolls p ∙ head_is;
-      follow = follow_head;
-      more = λ n h. h;
-    }
+          after = at_head;
+          passes = one_passes kernel y _ rolls (mid depth) p (both (both read (both within refl)) inner_passes);
+          flows = flow_by y _ rolls p ∙ head_is;
+          follow = follow_head;
+          more = λ n h. h;
+        }
 
     pub loop_closes : (omp : Option (List (Join × ℕ))) → closed (loop_body omp) ≡ loop_body omp ++ v.Return [] ∷ []
     loop_closes None =

@@ -1,9 +1,9 @@
 -- Registers of a plain kernel: those of names are there, and have their names' kinds and ranks.
-use Rattle.std.proofs.Common.{◌≡◌, ◌∙◌, ap, ap₂, sym, subst, refl, arith, ℕ, zero, suc, ◌+◌, ◌<◌, ◌≤◌, Bool, true, false}
-use Rattle.std.proofs.Common.{◌&&◌, List, [], ◌∷◌, ◌++◌, map, length, Option, Some, None, length-append}
+use Rattle.std.proofs.Common.{◌≡◌, ◌∙◌, ap, ap₂, sym, subst, refl, arith, ℕ, zero, suc, ◌+◌, ◌<◌, Bool, true, false}
+use Rattle.std.proofs.Common.{◌&&◌, List, [], ◌∷◌, ◌++◌, map, length, Some, length-append}
 use Rattle.std.proofs.Math.Dec.{eqb-suc-zero}
-use Rattle.std.specs.Prelude.{not, slice_get, slice_index_or, nat_lt, option_map}
-use Rattle.std.specs.List.{AllByRecursion, flat_map, list_all}
+use Rattle.std.specs.Prelude.{not, slice_get, slice_index_or, nat_lt}
+use Rattle.std.specs.List.{flat_map, list_all}
 use Rattle.std.proofs.lemmas.Bool.{lt-ltb}
 use Rattle.std.proofs.lemmas.List.{get_or_append_left}
 use Rattle.std.proofs.lemmas.List.Folds.{list_all-append}
@@ -90,13 +90,13 @@ module _ (names fresh : List Ty) (kernel : Kernel) (words : kernel.regs ≡ word
     view = λ n u e a.
         let below : number (table_of names) n < length (view_types names) =
         (is_table names).view_below n (inside names n u e) (is_array_by names n u e ∙ a) in record {
-      register = (is_table names).view n (inside names n u e) (is_array_by names n u e ∙ a);
-      there = view_there (number (table_of names) n) (omega (arith, below));
-      type = ap (λ (types : List Ty). slice_index_or types (number (table_of names) n) (Int64, 0)) views ∙
-          get_or_append_left (view_types names) fresh (Int64, 0) (number (table_of names) n) below ∙
-          table_type names n (inside names n u e) (is_array_by names n u e ∙ a) ∙
-          get_or_from_slice_get names n u (Int64, 0) e;
-    };
+          register = (is_table names).view n (inside names n u e) (is_array_by names n u e ∙ a);
+          there = view_there (number (table_of names) n) (omega (arith, below));
+          type = ap (λ (types : List Ty). slice_index_or types (number (table_of names) n) (Int64, 0)) views ∙
+              get_or_append_left (view_types names) fresh (Int64, 0) (number (table_of names) n) below ∙
+              table_type names n (inside names n u e) (is_array_by names n u e ∙ a) ∙
+              get_or_from_slice_get names n u (Int64, 0) e;
+        };
   }
 
 pub stands_from : (kernel : Kernel) (before fresh : List Ty) → kernel.views ≡ before ++ fresh →
@@ -105,10 +105,11 @@ stands_from kernel before [] views = tt
 stands_from kernel before (t ∷ fresh) views =
     let more : kernel.views ≡ (before ++ t ∷ []) ++ fresh = views ∙ regrouped before t fresh in
     let size : length (before ++ t ∷ []) ≡ length before + 1 = length-append before (t ∷ []) in
-    let whole : length (before ++ t ∷ fresh) ≡ length before + length (t ∷ fresh) = length-append before (t ∷ fresh) in (
+    let whole : length (before ++ t ∷ fresh) ≡ length before + length (t ∷ fresh) = length-append before (t ∷ fresh)
+    in (
       (
         ap (λ (types : List Ty). nat_lt (length before) (length types)) views ∙
-        lt-ltb (length before) (length (before ++ t ∷ fresh)) (omega (arith, whole)),
+            lt-ltb (length before) (length (before ++ t ∷ fresh)) (omega (arith, whole)),
         ap (λ (types : List Ty). slice_index_or types (length before) (Int64, 0)) views ∙ seam before,
       ),
       subst (λ (k : ℕ). Stands kernel k fresh) size (stands_from kernel (before ++ t ∷ []) fresh more),
@@ -203,6 +204,6 @@ module _ (names : List Ty) (kernel : Kernel) (held : Holds names kernel) where
       let first = back_fits x t h.0 in
       let rest = backs_fit xs types h.1 in (
         list_all-append (is_there kernel) (back_regs (back_of regs x)) (flat_map back_regs (map (back_of regs) xs)) ∙
-        both first.0 rest.0,
+            both first.0 rest.0,
         ap₂ (λ (u : Ty) (us : List Ty). u ∷ us) first.1 rest.1,
       )

@@ -1,8 +1,8 @@
 -- Paths through plain statements follow the walk over the core: what is bound there has an assigned register here.
-use Rattle.std.proofs.Common.{◌≡◌, ◌∙◌, ap, ap₂, sym, subst, refl, arith, ℕ, zero, suc, ◌+◌, ◌*◌, ◌<◌, ◌≤◌, max, Bool}
-use Rattle.std.proofs.Common.{true, false, not, ◌&&◌, ◌||◌, List, [], ◌∷◌, ◌++◌, map, length, Option, Some, None, ltb-true}
-use Rattle.std.specs.Prelude.{slice_get, slice_index_or, slice_set, nat_lt, if◌then◌else◌}
-use Rattle.std.specs.List.{flat_map, list_all, zip}
+use Rattle.std.proofs.Common.{◌≡◌, ◌∙◌, ap, sym, refl, arith, ℕ, zero, suc, ◌<◌, ◌≤◌, max, Bool}
+use Rattle.std.proofs.Common.{true, false, not, ◌||◌, List, [], ◌∷◌, ◌++◌, map, length, Some, ltb-true}
+use Rattle.std.specs.Prelude.{slice_get, slice_index_or, slice_set, if◌then◌else◌}
+use Rattle.std.specs.List.{flat_map, list_all}
 use Rattle.std.proofs.Math.Nat.{le-max_left, le-max_right}
 use Rattle.std.proofs.lemmas.List.{get_or-set_same, length-set, map-append}
 use Rattle.std.proofs.lemmas.List.Folds.{list_all-append}
@@ -18,7 +18,6 @@ use Rattle.lazy_expr.proofs.Operands.{AreScalar, IsScalar}
 use Rattle.lazy_expr.proofs.ValidNames.{Holds, both}
 use Rattle.loop_prog.specs.Conditions.{is_there}
 use Rattle.loop_prog.specs.Paths.{all_assigned, assign, both_paths, both_slots, is_assigned, meet, slot, slot_count}
-use Rattle.loop_prog.specs.Paths.{with_slot}
 use Rattle.loop_prog.specs.Statements.{back_regs, oper_regs, opers_regs, step_regs}
 use Rattle.loop_prog.specs.Templates.{leaf_of_step, leaves}
 use Rattle.loop_prog.specs.declared.paths.Paths.{Paths}
@@ -243,8 +242,8 @@ module _ (names : List Ty) (kernel : Kernel) (held : Holds names kernel) where
         let rest = steps_assigned xs more (and_right (operand_bound b x) (list_all (operand_bound b) xs) h) q r in
         let steps : List TemplateStep = map (operand_step regs) xs ++ more in (
           list_all-append (is_assigned p) (step_regs (operand_step regs x)) (flat_map step_regs steps) ∙
-          both first.0 rest.0,
+              both first.0 rest.0,
           ap (list_all (is_assigned p)) (map-append reg.View (leaf_of_step (operand_step regs x)) (leaves steps)) ∙
-          (list_all-append (is_assigned p) (map reg.View (leaf_of_step (operand_step regs x)))
-          (map reg.View (leaves steps)) ∙ both first.1 rest.1),
+              (list_all-append (is_assigned p) (map reg.View (leaf_of_step (operand_step regs x)))
+              (map reg.View (leaves steps)) ∙ both first.1 rest.1),
         )

@@ -1,21 +1,18 @@
 -- Plain kernels keep the rules on assignments, nesting and returns: at the start the parameters are assigned.
-use Rattle.std.proofs.Common.{◌≡◌, ◌∙◌, ap, ap₂, sym, subst, refl, arith, ℕ, zero, suc, ◌+◌, ◌<◌, ◌≤◌, Bool, true, false}
-use Rattle.std.proofs.Common.{◌&&◌, List, [], ◌∷◌, ◌++◌, map, length, take, replicate, Some}
-use Rattle.std.specs.Prelude.{slice_get, slice_set}
-use Rattle.std.specs.List.{flat_map, list_all}
+use Rattle.std.proofs.Common.{◌≡◌, ◌∙◌, ap, sym, refl, arith, ℕ, zero, suc, ◌+◌, ◌<◌, ◌≤◌, Bool, true, false}
+use Rattle.std.proofs.Common.{◌&&◌, List, [], ◌∷◌, ◌++◌, length, take, replicate}
+use Rattle.std.specs.Prelude.{slice_set}
+use Rattle.std.specs.List.{list_all}
 use Rattle.std.proofs.lemmas.List.{get_or-set_same, length-map, length-replicate, length-set}
 use Rattle.std.proofs.lemmas.List.Folds.{flat_map-map, list_all-map}
-use Rattle.std.proofs.lemmas.Option.{get_or_from_slice_get, slice_get_within}
 use Rattle.krn_base.specs.declared.kind.ParamType.{ParamType}
 use Rattle.krn_base.specs.declared.kind.ParamType.TheVariants.{Scalar, Flat, Strided}
-use Rattle.eager_rules.specs.Sound.{Bindings, IsSound, IsWellTyped, bound_in, given_types, head_of, walk}
+use Rattle.eager_rules.specs.Sound.{Bindings, IsWellTyped, bound_in, walk}
 use Rattle.eager_rules.specs.Sound.{at_start as core_start, is_assigned as all_bound}
 use Rattle.eager_rules.specs.Statements.{calls_of, calls_step}
-use Rattle.eager_rules.specs.Types.{Ty, same_types, type_of_param}
-use Rattle.eager_rules.specs.declared.program.Core.{Core}
+use Rattle.eager_rules.specs.Types.{Ty}
 use Rattle.eager_rules.specs.declared.program.Core.TheFolds.{fold-Core}
 use Rattle.eager_rules.specs.declared.program.Instance.{Instance}
-use Rattle.eager_rules.specs.declared.program.Program.{Program}
 use Rattle.lazy_expr.specs.Plain.{lowered, plain_kernel}
 use Rattle.lazy_expr.specs.Promise.{has_ranked_params, is_flat}
 use Rattle.lazy_expr.specs.Table.{register, table_of}
@@ -95,17 +92,20 @@ module _ (names : List Ty) (kernel : Kernel) where
   params_assigned k words views [] put there p size n m e below = absurd (omega (arith, below))
   params_assigned k words views (Scalar kind ∷ types) put there p size n m e below =
       one_more k (reg.Word words) (param_regs (words + 1) views types) (Scalar kind) types put.2
-      (and_left (is_there kernel (reg.Word words)) (list_all (is_there kernel) (param_regs (words + 1) views types)) there)
+      (and_left (is_there kernel (reg.Word words)) (list_all (is_there kernel) (param_regs (words + 1) views types))
+      there)
       (params_assigned (k + 1) (words + 1) views types put.3 (and_right (is_there kernel (reg.Word words))
       (list_all (is_there kernel) (param_regs (words + 1) views types)) there)) p size n m e below
   params_assigned k words views (Flat kind rank ∷ types) put there p size n m e below =
       one_more k (reg.View views) (param_regs words (views + 1) types) (Flat kind rank) types put.2
-      (and_left (is_there kernel (reg.View views)) (list_all (is_there kernel) (param_regs words (views + 1) types)) there)
+      (and_left (is_there kernel (reg.View views)) (list_all (is_there kernel) (param_regs words (views + 1) types))
+      there)
       (params_assigned (k + 1) words (views + 1) types put.3 (and_right (is_there kernel (reg.View views))
       (list_all (is_there kernel) (param_regs words (views + 1) types)) there)) p size n m e below
   params_assigned k words views (Strided kind rank ∷ types) put there p size n m e below =
       one_more k (reg.View views) (param_regs words (views + 1) types) (Strided kind rank) types put.2
-      (and_left (is_there kernel (reg.View views)) (list_all (is_there kernel) (param_regs words (views + 1) types)) there)
+      (and_left (is_there kernel (reg.View views)) (list_all (is_there kernel) (param_regs words (views + 1) types))
+      there)
       (params_assigned (k + 1) words (views + 1) types put.3 (and_right (is_there kernel (reg.View views))
       (list_all (is_there kernel) (param_regs words (views + 1) types)) there)) p size n m e below
 
@@ -158,7 +158,8 @@ module _ (f : Instance) (heads : List _) (typed : IsWellTyped heads f) (ranks : 
       let walked = some_given (walk f.body first) (λ names. true) bound in
       let ends = body_walks heads f.names kernel (holds f.names (lowered f.names f.body).fresh kernel refl refl) f.body
       typed.body (flat_map-map (λ (names : List ℕ). names) (fold-Core (List ℕ) calls_step) f.body ∙
-      no_item (calls_of f.body) flat) (stands f.names (lowered f.names f.body).fresh kernel refl) first walked.0 walked.1
+      no_item (calls_of f.body) flat) (stands f.names (lowered f.names f.body).fresh kernel refl) first walked.0
+      walked.1
       (list_all-map (λ (fits : ℕ → Bool). fits 0) (fold-Core (ℕ → Bool) shallow_step) f.body ∙ shallow)
       (at_start kernel) starts typed.returns in
       own_paths (kernel_keeps earlier kernel) (body_findings kernel) ends.1 ends.0

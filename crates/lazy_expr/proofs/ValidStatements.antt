@@ -1,54 +1,46 @@
 -- The rules on registers, kinds, ranks and templates for statements without blocks, in plain form.
-use Rattle.std.proofs.Common.{◌≡◌, ◌∙◌, ap, ap₂, sym, subst, refl, arith, ℕ, zero, suc, ◌+◌, ◌-◌, ◌<◌, ◌≤◌, Bool}
-use Rattle.std.proofs.Common.{true, false, not, ◌&&◌, ◌||◌, List, [], ◌∷◌, ◌++◌, map, length, Option, Some, None}
+use Rattle.std.proofs.Common.{◌≡◌, ◌∙◌, ap, ap₂, sym, subst, refl, arith, ℕ, ◌≤◌, Bool}
+use Rattle.std.proofs.Common.{true, false, not, ◌&&◌, ◌||◌, List, [], ◌∷◌, map, length, Option, Some}
 use Rattle.std.proofs.Common.{eq-eqb, eqb-true, leb-true}
 use Rattle.std.proofs.lemmas.Option.{get_or_from_slice_get}
-use Rattle.std.specs.Prelude.{slice_get, slice_index_or, nat_lt, nat_le, ◌==◌, if◌then◌else◌}
-use Rattle.std.specs.List.{flat_map, fold, list_all, list_any}
+use Rattle.std.specs.Prelude.{slice_get, slice_index_or, nat_le, ◌==◌}
+use Rattle.std.specs.List.{list_all, list_any}
 use Rattle.std.proofs.lemmas.List.{length-map}
 use Rattle.std.proofs.lemmas.List.Folds.{list_all-append}
 use Rattle.krn_base.specs.declared.kind.Kind.{Kind}
-use Rattle.krn_base.specs.declared.kind.Kind.TheVariants.{Int64, Bool as Boolean}
-use Rattle.krn_base.specs.declared.operation.Join.{Join}
+use Rattle.krn_base.specs.declared.kind.Kind.TheVariants.{Int64}
 use Rattle.krn_base.specs.declared.place.Loc.{Loc}
 use Rattle.array_ops.specs.declared.operation.Fill.{Fill}
-use Rattle.array_ops.specs.declared.operation.Fill.TheVariants as fills
 use Rattle.array_ops.specs.declared.operation.MapOp.{MapOp}
-use Rattle.array_ops.specs.declared.operation.RedOp.{RedOp}
-use Rattle.array_ops.specs.declared.operation.RedOp.TheVariants as red
 use Rattle.eager_rules.specs.Sound.{all_numbers, array_named, given_types, has_type}
 use Rattle.eager_rules.specs.Sound.{axis_fits as core_axis_fits}
-use Rattle.eager_rules.specs.Types.{Ty, fresh_fits, is_array, is_index, is_scalar, map_type, may_store, only, pick_type}
-use Rattle.eager_rules.specs.Types.{put_fits, reduce_kind, reduce_type, removed, same_kind, same_type, same_types}
-use Rattle.eager_rules.specs.Types.{store_fits, sub_fits, type_of, types_of, un_kind, with_rank, word_type, bin_kind}
+use Rattle.eager_rules.specs.Types.{Ty, fresh_fits, is_array, is_scalar, map_type, may_store, pick_type}
+use Rattle.eager_rules.specs.Types.{put_fits, same_kind, same_types}
+use Rattle.eager_rules.specs.Types.{store_fits, sub_fits, type_of, types_of, word_type}
 use Rattle.eager_rules.specs.declared.program.CoreSub.{CoreSub}
-use Rattle.eager_rules.specs.declared.program.CoreSub.TheVariants as sub
 use Rattle.eager_rules.specs.declared.program.Oper.{Oper}
-use Rattle.eager_rules.specs.declared.program.Oper.TheVariants as oper
 use Rattle.eager_rules.specs.declared.program.WordOp.{WordOp}
-use Rattle.eager_rules.specs.declared.program.WordOp.TheVariants as word_op
-use Rattle.lazy_expr.specs.Plain.{fold_steps, join_of, lower_map, map_into, map_steps, names_it, operand_step}
-use Rattle.lazy_expr.specs.Plain.{some_before, template}
-use Rattle.lazy_expr.specs.Table.{back_of, number, oper_of, opers_of, register, sub_of, table_of}
-use Rattle.lazy_expr.proofs.ValidRules.{all_local, is_local, local_at, local_step}
-use Rattle.lazy_expr.proofs.Binds.{and_left, and_right, not_both}
-use Rattle.lazy_expr.proofs.Operands.{AreScalar, IsScalar, array_named_given, none_some, numbers_scalar, of_types}
-use Rattle.lazy_expr.proofs.Operands.{one_given, same_one, some_given, some_same, typed_name, types_scalar, word_scalars}
-use Rattle.lazy_expr.proofs.Reductions.{reduce_given}
+use Rattle.lazy_expr.specs.Plain.{lower_map, map_into, map_steps, names_it, operand_step}
+use Rattle.lazy_expr.specs.Plain.{template}
+use Rattle.lazy_expr.specs.Table.{back_of, number, oper_of, opers_of, sub_of, table_of}
+use Rattle.lazy_expr.proofs.ValidRules.{all_local, is_local, local_step}
+use Rattle.lazy_expr.proofs.Binds.{and_left, and_right}
+use Rattle.lazy_expr.proofs.Operands.{array_named_given, of_types}
+use Rattle.lazy_expr.proofs.Operands.{one_given, some_given, typed_name, types_scalar, word_scalars}
 use Rattle.lazy_expr.proofs.Statements.{fresh_array, pick_array}
 use Rattle.lazy_expr.proofs.Templates.{map_given}
 use Rattle.lazy_expr.proofs.ValidNames.{Holds, Stands, backs_fit, both, numbers_there, scalar_kind, scalar_kinds}
 use Rattle.lazy_expr.proofs.ValidNames.{scalar_there, scalars_there, subs_there}
-use Rattle.lazy_expr.proofs.ValidTemplates.{Makes, leaf_step, leaves_below, makes_map, makes_one, makes_some, makes_un}
-use Rattle.lazy_expr.proofs.ValidTemplates.{step_is, un_small}
-use Rattle.lazy_expr.proofs.ValidTypes.{axis_same, fill_kind, fill_rank, index_same, kind_itself, no_array}
-use Rattle.lazy_expr.proofs.ValidTypes.{picked_type, ranked_kind, removed_from, removed_same, stores_itself}
+use Rattle.lazy_expr.proofs.ValidTemplates.{Makes, leaves_below, makes_map, makes_one, makes_some}
+use Rattle.lazy_expr.proofs.ValidTemplates.{step_is}
+use Rattle.lazy_expr.proofs.ValidTypes.{axis_same, fill_kind, fill_rank, kind_itself, no_array}
+use Rattle.lazy_expr.proofs.ValidTypes.{picked_type, stores_itself}
 use Rattle.lazy_expr.proofs.ValidTypes.{subs_moved, word_made}
-use Rattle.loop_prog.specs.Conditions.{Kinds, Stack, axis_fits, fold_takes, greatest, is_count, is_kind, is_there, kinds_fit}
-use Rattle.loop_prog.specs.Conditions.{may_join, oper_kind, ranks_fit, registers_fit, set_kind, small_word, stack_takes}
-use Rattle.loop_prog.specs.Conditions.{some_views, steps_fit, subs_fit, template_stack, templates_fit, view_rank}
+use Rattle.loop_prog.specs.Conditions.{Stack, axis_fits, greatest, is_count, is_kind, is_there}
+use Rattle.loop_prog.specs.Conditions.{set_kind, stack_takes}
+use Rattle.loop_prog.specs.Conditions.{subs_fit, view_rank}
 use Rattle.loop_prog.specs.Conditions.{view_type, word_kind}
-use Rattle.loop_prog.specs.Statements.{oper_regs, opers_regs, step_regs}
+use Rattle.loop_prog.specs.Statements.{oper_regs, opers_regs}
 use Rattle.loop_prog.specs.Templates.{leaves}
 use Rattle.loop_prog.specs.declared.program.Kernel.{Kernel}
 use Rattle.loop_prog.specs.declared.program.Reg.{Reg}
@@ -59,8 +51,7 @@ use Rattle.loop_prog.specs.declared.program.Statement.TheVariants as v
 use Rattle.loop_prog.specs.declared.program.Statement.TheFolds.{fold-roll-Statement, map-Statement}
 use Rattle.loop_prog.specs.declared.program.Statement.TheViews.{roll-Statement}
 use Rattle.loop_prog.specs.declared.program.TemplateStep.{TemplateStep}
-use Rattle.loop_prog.specs.declared.program.TemplateStep.TheVariants as step
-use Rattle.loop_prog.specs.declared.program.Test.TheVariants.{Fits, Filled}
+use Rattle.loop_prog.specs.declared.program.Test.TheVariants.{Fits}
 
 module _ (kernel : Kernel) where
   -- a statement by its rules and its blocks

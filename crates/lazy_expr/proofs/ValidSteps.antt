@@ -1,40 +1,33 @@
 -- The rules on assignments, nesting and returns for statements without blocks, in plain form.
-use Rattle.std.proofs.Common.{◌≡◌, ◌∙◌, ap, ap₂, sym, subst, refl, ℕ, Bool, true, false, ◌&&◌, List, [], ◌∷◌, ◌++◌, map}
-use Rattle.std.proofs.Common.{length, Option, Some, None}
-use Rattle.std.specs.Prelude.{slice_get, slice_set, slice_index_or, ◌==◌}
-use Rattle.std.specs.List.{flat_map, list_all, list_any}
+use Rattle.std.proofs.Common.{◌≡◌, ◌∙◌, ap, sym, refl, ℕ, Bool, true, false, ◌&&◌, List, [], ◌∷◌, ◌++◌, map}
+use Rattle.std.proofs.Common.{length, Option, Some}
+use Rattle.std.specs.Prelude.{slice_get, slice_set, ◌==◌}
+use Rattle.std.specs.List.{flat_map, list_all}
 use Rattle.std.proofs.lemmas.List.Folds.{list_all-append}
-use Rattle.std.proofs.lemmas.Option.{get_or_from_slice_get}
 use Rattle.krn_base.specs.declared.kind.Kind.TheVariants.{Int64}
 use Rattle.krn_base.specs.declared.place.Loc.{Loc}
 use Rattle.array_ops.specs.declared.operation.Fill.{Fill}
-use Rattle.array_ops.specs.declared.operation.MapOp.{MapOp}
-use Rattle.array_ops.specs.declared.operation.MapOp.TheVariants as map_op
-use Rattle.array_ops.specs.declared.operation.RedOp.{RedOp}
-use Rattle.array_ops.specs.declared.operation.RedOp.TheVariants as red
 use Rattle.eager_rules.specs.Sound.{Bindings, all_numbers, array_named, axis_fits, bound_in, given_types, has_type}
 use Rattle.eager_rules.specs.Sound.{operand_bound}
-use Rattle.eager_rules.specs.Types.{Ty, fresh_fits, is_array, is_scalar, map_type, may_store, pick_type, put_fits}
-use Rattle.eager_rules.specs.Types.{reduce_type, store_fits, sub_fits, type_of, types_of, word_type}
+use Rattle.eager_rules.specs.Types.{Ty, fresh_fits, is_array, is_scalar, may_store, pick_type, put_fits}
+use Rattle.eager_rules.specs.Types.{store_fits, sub_fits, type_of, types_of, word_type}
 use Rattle.eager_rules.specs.Works.{sub_operands}
 use Rattle.eager_rules.specs.declared.program.CoreSub.{CoreSub}
 use Rattle.eager_rules.specs.declared.program.Oper.{Oper}
 use Rattle.eager_rules.specs.declared.program.Oper.TheVariants as oper
 use Rattle.eager_rules.specs.declared.program.WordOp.{WordOp}
-use Rattle.lazy_expr.specs.Lowered.{closing_in, reduced}
-use Rattle.lazy_expr.specs.Plain.{closed, fold_steps, join_of, lower_map, map_into, map_steps, names_it, operand_step}
-use Rattle.lazy_expr.specs.Plain.{operation_step, some_before, template, with_end}
+use Rattle.lazy_expr.specs.Lowered.{closing_in}
+use Rattle.lazy_expr.specs.Plain.{closed, operand_step}
+use Rattle.lazy_expr.specs.Plain.{template, with_end}
 use Rattle.lazy_expr.specs.Table.{number, oper_of, opers_of, register, sub_of, table_of}
 use Rattle.lazy_expr.proofs.ValidRules.{keeps_paths}
 use Rattle.lazy_expr.proofs.Binds.{and_left, and_right}
-use Rattle.lazy_expr.proofs.Operands.{AreScalar, array_named_given, numbers_scalar, of_types, one_given, some_given}
+use Rattle.lazy_expr.proofs.Operands.{array_named_given, numbers_scalar, of_types, one_given, some_given}
 use Rattle.lazy_expr.proofs.Operands.{subs_given, subs_scalar, typed_name, types_scalar, word_scalars}
-use Rattle.lazy_expr.proofs.Reductions.{reduce_given}
 use Rattle.lazy_expr.proofs.Statements.{fresh_array, pick_array}
 use Rattle.lazy_expr.proofs.TailEnds.{rolled}
-use Rattle.lazy_expr.proofs.Templates.{map_given}
-use Rattle.lazy_expr.proofs.ValidNames.{Holds, Stands, both}
-use Rattle.lazy_expr.proofs.ValidPaths.{Sub, Tracks, assigned_here, assigned_still, follow_bound, follow_new}
+use Rattle.lazy_expr.proofs.ValidNames.{Holds, both}
+use Rattle.lazy_expr.proofs.ValidPaths.{Sub, Tracks, follow_bound}
 use Rattle.lazy_expr.proofs.ValidPaths.{reads_assigned, scalar_assigned, scalars_assigned, set_more, steps_assigned}
 use Rattle.lazy_expr.proofs.ValidPaths.{view_assigned}
 use Rattle.lazy_expr.proofs.ValidTypes.{no_array}
@@ -43,7 +36,6 @@ use Rattle.loop_prog.specs.Conditions.{is_there}
 use Rattle.loop_prog.specs.Judging.{block_by}
 use Rattle.loop_prog.specs.Paths.{Flow, assign, block_flow, flow, flow_step, is_assigned}
 use Rattle.loop_prog.specs.Statements.{oper_regs, opers_regs, step_regs}
-use Rattle.loop_prog.specs.Templates.{leaves}
 use Rattle.loop_prog.specs.declared.kept.Site.{Site}
 use Rattle.loop_prog.specs.declared.paths.Paths.{Paths}
 use Rattle.loop_prog.specs.declared.program.Kernel.{Kernel}
@@ -55,7 +47,6 @@ use Rattle.loop_prog.specs.declared.program.Statement.TheVariants as v
 use Rattle.loop_prog.specs.declared.program.Statement.TheFolds.{fold-roll-Statement, map-Statement, para-roll-Statement}
 use Rattle.loop_prog.specs.declared.program.Statement.TheViews.{roll-Statement}
 use Rattle.loop_prog.specs.declared.program.TemplateStep.{TemplateStep}
-use Rattle.loop_prog.specs.declared.program.Test.TheVariants.{Fits, Filled}
 
 -- where a statement stands that ends no block in tail position
 abbrev pub mid : ℕ → Site
@@ -88,7 +79,8 @@ module _ (kernel : Kernel) where
       Finds y site p → list_all keeps_paths (findings kernel s site p) ≡ true
   found_by y s e site p h =
       ap (λ (x : Statement). list_all keeps_paths (findings kernel x site p)) (sym e) ∙
-      (ap (λ (f : Findings). list_all keeps_paths (f site p)) (para-roll-Statement Findings (findings_step kernel) y) ∙ h)
+      (ap (λ (f : Findings). list_all keeps_paths (f site p)) (para-roll-Statement Findings (findings_step kernel) y)
+      ∙ h)
 
   pub one_passes : (y : l.Statement-F Statement) (s : Statement) → roll-Statement y ≡ s → (site : Site) (p : Paths) →
       Finds y site p → Passes (s ∷ []) site p
@@ -118,15 +110,16 @@ module _ (kernel : Kernel) where
       Runs depth rest q r → Runs depth (s ∷ rest) p r
   runs_more y s e depth p q r rest h f runs =
       let next : flow s p ≡ q = flow_by y s e p ∙ f in record {
-    passes = list_all-append keeps_paths (findings kernel s (before_rest (mid depth) (map (with_findings kernel) rest)) p)
-        (block_by kernel rest (mid depth) (flow s p)) ∙
-        both (ap (λ (site : Site). list_all keeps_paths (findings kernel s site p))
-        (before_mid depth (map (with_findings kernel) rest)) ∙ found_by y s e (mid depth) p h)
-        (ap (λ (x : Paths). list_all keeps_paths (block_by kernel rest (mid depth) x)) next ∙ runs.passes);
-    flows = ap (block_flow rest) next ∙ runs.flows;
-    closes = closed_more s rest runs.some ∙ ap (λ (xs : List Statement). s ∷ xs) runs.closes;
-    some = refl;
-  }
+        passes = list_all-append keeps_paths (findings kernel s (before_rest (mid depth) (map (with_findings kernel)
+            rest)) p)
+            (block_by kernel rest (mid depth) (flow s p)) ∙
+            both (ap (λ (site : Site). list_all keeps_paths (findings kernel s site p))
+            (before_mid depth (map (with_findings kernel) rest)) ∙ found_by y s e (mid depth) p h)
+            (ap (λ (x : Paths). list_all keeps_paths (block_by kernel rest (mid depth) x)) next ∙ runs.passes);
+        flows = ap (block_flow rest) next ∙ runs.flows;
+        closes = closed_more s rest runs.some ∙ ap (λ (xs : List Statement). s ∷ xs) runs.closes;
+        some = refl;
+      }
 
   module _ (names : List Ty) (held : Holds names kernel) where
     abbrev regs : List Reg

@@ -1,7 +1,7 @@
 -- Templates of plain kernels: their registers are there, and they make one value of the right kind and rank.
 use Rattle.std.proofs.Common.{◌≡◌, ◌∙◌, ap, ap₂, sym, subst, refl, arith, ℕ, zero, suc, ◌+◌, ◌-◌, ◌<◌, ◌≤◌, max, Bool}
-use Rattle.std.proofs.Common.{true, false, not, ◌&&◌, List, [], ◌∷◌, ◌++◌, map, length, Option, Some, None}
-use Rattle.std.specs.Prelude.{slice_get, nat_lt, nat_le, if◌then◌else◌}
+use Rattle.std.proofs.Common.{true, false, not, List, [], ◌∷◌, ◌++◌, map, Option, Some, None}
+use Rattle.std.specs.Prelude.{slice_get, nat_le, if◌then◌else◌}
 use Rattle.std.specs.List.{flat_map, list_all}
 use Rattle.std.proofs.Math.Dec.{eqb-suc-zero}
 use Rattle.std.proofs.Math.Nat.{le-max_left, le-max_right, max-zero, zero-max}
@@ -19,11 +19,11 @@ use Rattle.eager_rules.specs.Types.{Ty, bin_kind, is_array, map_type, only, sele
 use Rattle.eager_rules.specs.Types.{with_array_rank}
 use Rattle.eager_rules.specs.declared.program.Oper.{Oper}
 use Rattle.eager_rules.specs.declared.program.Oper.TheVariants as oper
-use Rattle.lazy_expr.specs.Plain.{leaf_or_word, map_steps, operand_step, operation_step}
-use Rattle.lazy_expr.specs.Table.{number, oper_of, register, table_of}
+use Rattle.lazy_expr.specs.Plain.{leaf_or_word, map_steps, operand_step}
+use Rattle.lazy_expr.specs.Table.{number, register, table_of}
 use Rattle.lazy_expr.proofs.Binds.{not_both}
-use Rattle.lazy_expr.proofs.Operands.{IsScalar, OfTypes, none_some, some_same}
-use Rattle.lazy_expr.proofs.ValidNames.{Holds, both, scalar_kind, scalar_there}
+use Rattle.lazy_expr.proofs.Operands.{OfTypes, none_some, some_same}
+use Rattle.lazy_expr.proofs.ValidNames.{Holds, both}
 use Rattle.loop_prog.specs.Conditions.{Kinds, Stack, greatest, is_one, depth_after, is_there, oper_kind, push_kind}
 use Rattle.loop_prog.specs.Conditions.{push_kinds, small_power, small_step, some_views, steps_fit, template_stack}
 use Rattle.loop_prog.specs.Conditions.{unary_kind, view_rank, view_type, with_kind}

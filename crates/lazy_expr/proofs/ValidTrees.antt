@@ -1,18 +1,15 @@
 -- The induction over statements and blocks: lowered statements keep the rules on assignments, nesting and returns.
-use Rattle.std.proofs.Common.{◌≡◌, ◌∙◌, ap, ap₂, sym, subst, refl, ℕ, ◌+◌, Bool, true, false, not, ◌&&◌, ◌||◌}
-use Rattle.std.proofs.Common.{List, [], ◌∷◌, ◌++◌, map, length, Option, Some, None}
-use Rattle.std.specs.Prelude.{slice_get, slice_set, nat_lt, if◌then◌else◌}
+use Rattle.std.proofs.Common.{◌≡◌, ◌∙◌, ap, sym, subst, refl, ℕ, ◌+◌, Bool, true, false, ◌&&◌}
+use Rattle.std.proofs.Common.{List, [], ◌∷◌, map, length, Some}
+use Rattle.std.specs.Prelude.{slice_set, nat_lt}
 use Rattle.std.specs.List.{flat_map, list_all}
 use Rattle.std.proofs.lemmas.Grind.{flat_map-append}
-use Rattle.std.proofs.lemmas.List.Folds.{list_all-append}
 use Rattle.krn_base.specs.declared.kind.Kind.TheVariants.{Int64}
-use Rattle.krn_base.specs.declared.operation.Join.{Join}
-use Rattle.krn_base.specs.declared.place.Loc.{Loc}
-use Rattle.eager_rules.specs.Sound.{Bindings, Head, Shape, all_fit, all_numbers, block_shape, both_shapes, fits, fits_step}
-use Rattle.eager_rules.specs.Sound.{given_types, has_type, in_walk, names_fit, next, operand_bound, put_all}
-use Rattle.eager_rules.specs.Sound.{reduction_fits, returns_values, shape_of_body, shape_step, simple, stay, tested, walk}
+use Rattle.eager_rules.specs.Sound.{Bindings, Head, Shape, all_fit, all_numbers, block_shape, fits, fits_step}
+use Rattle.eager_rules.specs.Sound.{has_type, in_walk, names_fit, operand_bound}
+use Rattle.eager_rules.specs.Sound.{reduction_fits, returns_values, shape_of_body, shape_step, simple, stay, walk}
 use Rattle.eager_rules.specs.Sound.{walk_step}
-use Rattle.eager_rules.specs.Sound.{both as both_walks, meet as core_meet}
+use Rattle.eager_rules.specs.Sound.{both as both_walks}
 use Rattle.eager_rules.specs.Statements.{calls_step}
 use Rattle.eager_rules.specs.Types.{Ty, is_truth, type_of}
 use Rattle.eager_rules.specs.Works.{sub_operands}
@@ -20,40 +17,33 @@ use Rattle.eager_rules.specs.declared.program.Core.{Core}
 use Rattle.eager_rules.specs.declared.program.Core.TheOpen as c
 use Rattle.eager_rules.specs.declared.program.Core.TheFolds.{fold-Core, fold-roll-Core, map-Core}
 use Rattle.eager_rules.specs.declared.program.Core.TheViews.{roll-Core}
-use Rattle.eager_rules.specs.declared.program.Oper.{Oper}
 use Rattle.eager_rules.specs.declared.program.Oper.TheVariants as oper
-use Rattle.lazy_expr.specs.Plain.{Lowering, closed, closed_for, empty_guard, in_turn, loop_of, lowered, plain_of, plain_step}
-use Rattle.lazy_expr.specs.Plain.{reduction_of, with_end}
-use Rattle.lazy_expr.specs.Table.{number, oper_of, opers_of, table_of, view_types}
+use Rattle.lazy_expr.specs.Plain.{Lowering, closed_for, in_turn, loop_of, lowered, plain_of, plain_step}
+use Rattle.lazy_expr.specs.Table.{number, oper_of, table_of, view_types}
 use Rattle.lazy_expr.specs.Valid.{shallow_step}
 use Rattle.lazy_expr.proofs.ValidRules.{keeps_paths}
 use Rattle.lazy_expr.proofs.Binds.{and_left, and_right, not_both}
-use Rattle.lazy_expr.proofs.Operands.{numbers_scalar, one_given, some_same}
-use Rattle.lazy_expr.proofs.TailEnds.{rolled}
+use Rattle.lazy_expr.proofs.Operands.{some_same}
 use Rattle.lazy_expr.proofs.Trees.{Good, by_layers, fused}
-use Rattle.lazy_expr.proofs.ValidBlocks.{closed_for_joined, firsts, flow_joined, last, nothing_more, passes_last}
+use Rattle.lazy_expr.proofs.ValidBlocks.{closed_for_joined, flow_joined, last, nothing_more, passes_last}
 use Rattle.lazy_expr.proofs.ValidBlocks.{passes_mid, some_joined}
 use Rattle.lazy_expr.proofs.ValidBodies.{none_left}
 use Rattle.lazy_expr.proofs.ValidFills.{map_runs, reduce_runs}
 use Rattle.lazy_expr.proofs.ValidLoops.{loop_closes, loop_middle}
-use Rattle.lazy_expr.proofs.ValidNames.{Holds, IsWord, Stands, both, stands_split}
-use Rattle.lazy_expr.proofs.ValidPaths.{Sub, Tracks, fewer, follow_both, follow_bound, reads_assigned, scalars_assigned}
-use Rattle.lazy_expr.proofs.ValidPaths.{set_more}
-use Rattle.lazy_expr.proofs.ValidSteps.{Passes, alias_runs, extent_runs, flip_runs, flow_by, fresh_runs, get_runs, mid}
-use Rattle.lazy_expr.proofs.ValidSteps.{one_passes, pick_runs, put_runs, store_runs, word_runs}
+use Rattle.lazy_expr.proofs.ValidNames.{Holds, Stands, stands_split}
+use Rattle.lazy_expr.proofs.ValidPaths.{Sub, Tracks}
+use Rattle.lazy_expr.proofs.ValidSteps.{Passes, alias_runs, extent_runs, flip_runs, fresh_runs, get_runs, mid}
+use Rattle.lazy_expr.proofs.ValidSteps.{pick_runs, put_runs, store_runs, word_runs}
 use Rattle.lazy_expr.proofs.ValidWalks.{Done, Ends, Middle, Walk, behind_plain, both_given, first_plain, if_ends}
 use Rattle.lazy_expr.proofs.ValidWalks.{if_middle, leaf_case, next_given, open_ends, parts_return, return_done}
 use Rattle.lazy_expr.proofs.ValidWalks.{return_passes, stay_given, tested_given}
-use Rattle.loop_prog.specs.Check.{has_some, with_findings}
+use Rattle.loop_prog.specs.Check.{has_some}
 use Rattle.loop_prog.specs.Judging.{block_by}
-use Rattle.loop_prog.specs.Paths.{all_assigned, assign, block_flow, body_start, both_paths, head, kept_by}
-use Rattle.loop_prog.specs.Statements.{opers_regs}
+use Rattle.loop_prog.specs.Paths.{block_flow}
 use Rattle.loop_prog.specs.declared.paths.Paths.{Paths}
 use Rattle.loop_prog.specs.declared.program.Kernel.{Kernel}
 use Rattle.loop_prog.specs.declared.program.Reg.{Reg}
-use Rattle.loop_prog.specs.declared.program.Reg.TheVariants as reg
 use Rattle.loop_prog.specs.declared.program.Statement.{Statement}
-use Rattle.loop_prog.specs.declared.program.Statement.TheOpen as l
 use Rattle.loop_prog.specs.declared.program.Statement.TheVariants as v
 
 plain_by : (rets : List Ty) (plain : Bool) →
@@ -140,15 +130,15 @@ module _ (heads : List Head) (names : List Ty) (kernel : Kernel) (held : Holds n
         let none = none_left (fold-Core (List ℕ) calls_step (core x)) (each_calls xs) n in
         let walked = next_given (fold-Core Walk walk_step (core x) b) (in_walk (each_walk xs)) d w in
         let shallow : Bool = fold-Core (ℕ → Bool) shallow_step (core x) depth in record {
-      between = walked.0;
-      here = good x (and_left (fits heads kernel.rets names (core x)) (each_fits xs) f) none.0 k stood.0 b walked.0
-          walked.1 depth (and_left shallow (each_shallow depth xs) s) p t;
-      left_fits = and_right (fits heads kernel.rets names (core x)) (each_fits xs) f;
-      left_calls = none.1;
-      left_stands = stood.1;
-      left_walk = walked.2;
-      left_shallow = and_right shallow (each_shallow depth xs) s;
-    }
+          between = walked.0;
+          here = good x (and_left (fits heads kernel.rets names (core x)) (each_fits xs) f) none.0 k stood.0 b walked.0
+              walked.1 depth (and_left shallow (each_shallow depth xs) s) p t;
+          left_fits = and_right (fits heads kernel.rets names (core x)) (each_fits xs) f;
+          left_calls = none.1;
+          left_stands = stood.1;
+          left_walk = walked.2;
+          left_shallow = and_right shallow (each_shallow depth xs) s;
+        }
 
     block_middle : (xs : List X) → each_fits xs ≡ true → each_calls xs ≡ [] → (k : ℕ) →
         Stands kernel k (in_turn (each_low xs) k).fresh → (b d : Bindings) → in_walk (each_walk xs) b ≡ Some d →
@@ -156,27 +146,28 @@ module _ (heads : List Head) (names : List Ty) (kernel : Kernel) (held : Holds n
         (block_shape (each_shape xs)).plain ≡ true → Mid depth (in_turn (each_low xs) k).body p b d
     block_middle [] f n k new b d w depth s p t plain =
         let same : b ≡ d = some_same b d w in record {
-      after = p;
-      passes = refl;
-      flows = refl;
-      follow = subst (λ (e : Bindings). Follow e p) same t;
-      more = subst (λ (e : Bindings). Sub b e) same (λ m h. h);
-    }
+          after = p;
+          passes = refl;
+          flows = refl;
+          follow = subst (λ (e : Bindings). Follow e p) same t;
+          more = subst (λ (e : Bindings). Sub b e) same (λ m h. h);
+        }
     block_middle (x ∷ xs) f n k new b d w depth s p t plain =
         let first : Lowering = plain_of names regs (core x) in
         let rest : List Statement = (in_turn (each_low xs) (k + length (first k).fresh)).body in
         let one = split_first x xs f n k new b d w depth s p t in
         let plains = first_plain (fold-Core Shape shape_step (core x)) (each_shape xs) plain in
         let here = one.here.middle plains.0 in
-        let left = block_middle xs one.left_fits one.left_calls (k + length (first k).fresh) one.left_stands one.between d
+        let left = block_middle xs one.left_fits one.left_calls (k + length (first k).fresh) one.left_stands
+        one.between d
         one.left_walk depth one.left_shallow here.after here.follow plains.1 in record {
-      after = left.after;
-      passes = passes_mid kernel depth (first k).body rest p here.passes
-          (ap (λ (q : Paths). list_all keeps_paths (block_by kernel rest (mid depth) q)) here.flows ∙ left.passes);
-      flows = flow_joined (first k).body rest p ∙ (ap (block_flow rest) here.flows ∙ left.flows);
-      follow = left.follow;
-      more = λ m h. left.more m (here.more m h);
-    }
+          after = left.after;
+          passes = passes_mid kernel depth (first k).body rest p here.passes
+              (ap (λ (q : Paths). list_all keeps_paths (block_by kernel rest (mid depth) q)) here.flows ∙ left.passes);
+          flows = flow_joined (first k).body rest p ∙ (ap (block_flow rest) here.flows ∙ left.flows);
+          follow = left.follow;
+          more = λ m h. left.more m (here.more m h);
+        }
 
     block_some : (x : X) (xs : List X) (k : ℕ) (b d : Bindings) (depth : ℕ) (p : Paths) → Split x xs k b d depth p →
         has_some (in_turn (each_low (x ∷ xs)) k).body ≡ true
@@ -208,7 +199,8 @@ module _ (heads : List Head) (names : List Ty) (kernel : Kernel) (held : Holds n
         let here = one.here.middle returns.0 in
         let two = split_first y xs one.left_fits one.left_calls from one.left_stands one.between d one.left_walk depth
         one.left_shallow here.after here.follow in
-        let left = block_ends (y ∷ xs) one.left_fits one.left_calls from one.left_stands one.between d one.left_walk depth
+        let left = block_ends (y ∷ xs) one.left_fits one.left_calls from one.left_stands one.between d one.left_walk
+        depth
         one.left_shallow here.after here.follow returns.1 in
         let closes = closed_for_joined kernel.rets (first k).body rest
         (block_some y xs from one.between d depth here.after two) in (
@@ -283,7 +275,8 @@ module _ (heads : List Head) (names : List Ty) (kernel : Kernel) (held : Holds n
       (map (λ (g : Good Fine). fold-Core (List ℕ) calls_step g.0) other)) ∙ n) in
       let walked = tested_given (operand_bound b cond) (both_walks (in_walk (each_walk first_of is_good part) b)
       (in_walk (each_walk first_of is_good other) b)) d w in
-      let ways = both_given (in_walk (each_walk first_of is_good part) b) (in_walk (each_walk first_of is_good other) b) d
+      let ways = both_given (in_walk (each_walk first_of is_good part) b) (in_walk (each_walk first_of is_good other)
+      b) d
       walked.1 in
       let deep = and_right (nat_lt depth 128) (each_shallow first_of is_good (depth + 1) part &&
       each_shallow first_of is_good (depth + 1) other) s in
@@ -297,20 +290,23 @@ module _ (heads : List Head) (names : List Ty) (kernel : Kernel) (held : Holds n
       let second_fit = and_right (parts_fit part) (parts_fit other) fit in
       let one : Shape = block_shape (each_shape first_of is_good part) in
       let two : Shape = block_shape (each_shape first_of is_good other) in record {
-    some = refl;
-    middle = λ plain. subst (λ (e : Bindings). Mid depth (v.If (oper_of regs cond) yes no ∷ []) p b e) ways.4
-        (if_middle heads names kernel held cond yes no depth p b ways.0 ways.1 truth walked.0 t within
-        (block_middle first_of is_good part first_fit none.0 k stood.0 b ways.0 ways.2 (depth + 1) first_deep p t
-        (and_left one.plain two.plain plain))
-        (block_middle first_of is_good other second_fit none.1 (k + own) stood.1 b ways.1 ways.3 (depth + 1) second_deep p
-        t (and_right one.plain two.plain plain)));
-    ends = λ h.
-        let returns = parts_return kernel.rets one two h in
-        if_ends heads names kernel held cond yes no depth p b ways.0 ways.1 truth walked.0 t within
-        (block_ends first_of is_good part first_fit none.0 k stood.0 b ways.0 ways.2 (depth + 1) first_deep p t returns.0)
-        (block_ends first_of is_good other second_fit none.1 (k + own) stood.1 b ways.1 ways.3 (depth + 1) second_deep p t
-        returns.1);
-  }
+        some = refl;
+        middle = λ plain. subst (λ (e : Bindings). Mid depth (v.If (oper_of regs cond) yes no ∷ []) p b e) ways.4
+            (if_middle heads names kernel held cond yes no depth p b ways.0 ways.1 truth walked.0 t within
+            (block_middle first_of is_good part first_fit none.0 k stood.0 b ways.0 ways.2 (depth + 1) first_deep p t
+            (and_left one.plain two.plain plain))
+            (block_middle first_of is_good other second_fit none.1 (k + own) stood.1 b ways.1 ways.3 (depth + 1)
+            second_deep p
+            t (and_right one.plain two.plain plain)));
+        ends = λ h.
+            let returns = parts_return kernel.rets one two h in
+            if_ends heads names kernel held cond yes no depth p b ways.0 ways.1 truth walked.0 t within
+            (block_ends first_of is_good part first_fit none.0 k stood.0 b ways.0 ways.2 (depth + 1) first_deep p t
+            returns.0)
+            (block_ends first_of is_good other second_fit none.1 (k + own) stood.1 b ways.1 ways.3 (depth + 1)
+            second_deep p t
+            returns.1);
+      }
   by_case (c.For var lo hi by at omp body) f n k new b d w depth s p t =
       let given : Bool = all_numbers names (lo ∷ hi ∷ by ∷ []) in
       let has : Bool = has_type names var (Some (Int64, 0)) in
@@ -328,18 +324,21 @@ module _ (heads : List Head) (names : List Ty) (kernel : Kernel) (held : Holds n
       let plain : Bool = (block_shape (each_shape first_of is_good body)).plain in
       let turn = λ (e : plain ≡ true) (q : Paths) (u : Follow (slice_set b var true) q).
       block_middle first_of is_good body fit n k new (slice_set b var true) turned.0 turned.1 (depth + 1) deep q u e in
-      let whole = λ (e : plain ≡ true). loop_middle heads names kernel held var lo hi by at inner depth p b turned.0 (and_left given has two)
+      let whole = λ (e : plain ≡ true). loop_middle heads names kernel held var lo hi by at inner depth p b turned.0
+      (and_left given has two)
       (and_right given has two) bound t within (turn e) omp in record {
-    some = refl;
-    middle = λ e. subst (λ (m : Bindings). Mid depth (loop_of regs (number regs var) (oper_of regs lo) (oper_of regs hi)
-        (oper_of regs by) at omp inner ∷ []) p b m) turned.2 (whole e);
-    ends = λ h.
-        let e = plain_by kernel.rets plain h in
-        open_ends heads names kernel held kernel.rets depth (loop_of regs (number regs var) (oper_of regs lo)
-        (oper_of regs hi) (oper_of regs by) at omp inner ∷ []) p plain h (whole e).passes
-        (loop_closes heads names kernel held var lo hi by at inner depth p b turned.0 (and_left given has two) (and_right given has two) bound t
-        within (turn e) omp) refl;
-  }
+        some = refl;
+        middle = λ e. subst (λ (m : Bindings). Mid depth (loop_of regs (number regs var) (oper_of regs lo) (oper_of
+            regs hi)
+            (oper_of regs by) at omp inner ∷ []) p b m) turned.2 (whole e);
+        ends = λ h.
+            let e = plain_by kernel.rets plain h in
+            open_ends heads names kernel held kernel.rets depth (loop_of regs (number regs var) (oper_of regs lo)
+            (oper_of regs hi) (oper_of regs by) at omp inner ∷ []) p plain h (whole e).passes
+            (loop_closes heads names kernel held var lo hi by at inner depth p b turned.0 (and_left given has two)
+            (and_right given has two) bound t
+            within (turn e) omp) refl;
+      }
   by_case (c.Return values) f n k new b d w depth s p t =
       return_done heads names kernel held values depth p b d
       (tested_given (list_all (operand_bound b) values) _ d w).0 t

@@ -1,53 +1,35 @@
 -- Lowered statements keep the rules on assignments, nesting and returns: one case for each kind of statement, and the
 -- induction over blocks.
-use Rattle.std.proofs.Common.{◌≡◌, ◌∙◌, ap, ap₂, sym, subst, refl, ℕ, ◌+◌, Bool, true, false, not, ◌&&◌, ◌||◌}
-use Rattle.std.proofs.Common.{List, [], ◌∷◌, ◌++◌, map, length, Option, Some, None}
-use Rattle.std.specs.Prelude.{slice_get, slice_set, nat_lt, if◌then◌else◌}
-use Rattle.std.specs.List.{flat_map, list_all}
-use Rattle.std.proofs.lemmas.Grind.{flat_map-append}
+use Rattle.std.proofs.Common.{◌≡◌, ◌∙◌, ap, ap₂, sym, subst, refl, ℕ, ◌+◌, Bool, true, false, ◌&&◌}
+use Rattle.std.proofs.Common.{List, [], ◌∷◌, ◌++◌, map, Option, Some, None}
+use Rattle.std.specs.Prelude.{nat_lt}
+use Rattle.std.specs.List.{list_all}
 use Rattle.std.proofs.lemmas.List.Folds.{list_all-append}
-use Rattle.krn_base.specs.declared.kind.Kind.TheVariants.{Int64}
-use Rattle.krn_base.specs.declared.operation.Join.{Join}
-use Rattle.krn_base.specs.declared.place.Loc.{Loc}
-use Rattle.eager_rules.specs.Sound.{Bindings, Head, Shape, all_numbers, block_shape, both_shapes, fits, fits_step}
-use Rattle.eager_rules.specs.Sound.{given_types, has_type, in_walk, names_fit, next, operand_bound, put_all}
-use Rattle.eager_rules.specs.Sound.{reduction_fits, returns_values, shape_step, simple, stay, tested, walk_step}
+use Rattle.eager_rules.specs.Sound.{Bindings, Head, Shape, block_shape, both_shapes}
+use Rattle.eager_rules.specs.Sound.{names_fit, next, operand_bound, put_all}
+use Rattle.eager_rules.specs.Sound.{returns_values, simple, stay, tested}
 use Rattle.eager_rules.specs.Sound.{both as both_walks, meet as core_meet}
-use Rattle.eager_rules.specs.Statements.{calls_step}
-use Rattle.eager_rules.specs.Types.{Ty, is_truth, same_types, type_of, types_of}
-use Rattle.eager_rules.specs.declared.program.Core.{Core}
-use Rattle.eager_rules.specs.declared.program.Core.TheOpen as c
-use Rattle.eager_rules.specs.declared.program.Core.TheFolds.{fold-Core, fold-roll-Core, map-Core}
-use Rattle.eager_rules.specs.declared.program.Core.TheViews.{roll-Core}
+use Rattle.eager_rules.specs.Types.{Ty, is_truth, type_of}
 use Rattle.eager_rules.specs.declared.program.Oper.{Oper}
-use Rattle.eager_rules.specs.declared.program.Oper.TheVariants as oper
-use Rattle.eager_rules.specs.Works.{sub_operands}
-use Rattle.lazy_expr.specs.Plain.{Lowering, closed, closed_for, empty_guard, in_turn, loop_of, plain_of, plain_step}
-use Rattle.lazy_expr.specs.Plain.{reduction_of, with_end}
-use Rattle.lazy_expr.specs.Table.{back_of, number, oper_of, opers_of, table_of}
-use Rattle.lazy_expr.specs.Valid.{shallow_step}
+use Rattle.lazy_expr.specs.Plain.{closed, closed_for}
+use Rattle.lazy_expr.specs.Table.{back_of, oper_of, table_of}
 use Rattle.lazy_expr.proofs.ValidRules.{keeps_paths}
 use Rattle.lazy_expr.proofs.Binds.{and_left, and_right, not_both}
-use Rattle.lazy_expr.proofs.Operands.{none_some, numbers_scalar, one_given, some_same, truth_scalar}
-use Rattle.lazy_expr.proofs.TailEnds.{rolled}
-use Rattle.lazy_expr.proofs.Trees.{Good, by_layers, fused}
-use Rattle.lazy_expr.proofs.ValidBlocks.{closed_for_if, closed_for_joined, closed_for_return, firsts, flow_joined, last}
-use Rattle.lazy_expr.proofs.ValidBlocks.{nothing_more, passes_last, passes_mid, some_joined, some_mapped}
-use Rattle.lazy_expr.proofs.ValidBodies.{none_left}
-use Rattle.lazy_expr.proofs.ValidFills.{map_runs, reduce_runs}
-use Rattle.lazy_expr.proofs.ValidNames.{Holds, Stands, both, stands_split}
-use Rattle.lazy_expr.proofs.ValidPaths.{Sub, Tracks, backs_assigned, fewer, follow_both, follow_bound, meet_both, meet_is}
-use Rattle.lazy_expr.proofs.ValidPaths.{meet_left, meet_right, reads_assigned, scalar_assigned, scalars_assigned, set_more}
-use Rattle.lazy_expr.proofs.ValidSteps.{Finds, Leaves, Passes, alias_runs, extent_runs, flip_runs, flow_by, fresh_runs}
-use Rattle.lazy_expr.proofs.ValidSteps.{get_runs, mid, one_passes, pick_runs, put_runs, store_runs, word_runs}
-use Rattle.loop_prog.specs.Check.{has_some, with_findings}
+use Rattle.lazy_expr.proofs.Operands.{none_some, some_same, truth_scalar}
+use Rattle.lazy_expr.proofs.ValidBlocks.{closed_for_if, closed_for_return, last}
+use Rattle.lazy_expr.proofs.ValidBlocks.{passes_last, some_joined, some_mapped}
+use Rattle.lazy_expr.proofs.ValidNames.{Holds, both}
+use Rattle.lazy_expr.proofs.ValidPaths.{Sub, Tracks, backs_assigned, fewer, follow_both, meet_both, meet_is}
+use Rattle.lazy_expr.proofs.ValidPaths.{meet_left, meet_right, reads_assigned, scalar_assigned}
+use Rattle.lazy_expr.proofs.ValidSteps.{Leaves, Passes, flow_by}
+use Rattle.lazy_expr.proofs.ValidSteps.{mid, one_passes}
+use Rattle.loop_prog.specs.Check.{has_some}
 use Rattle.loop_prog.specs.Judging.{block_by}
-use Rattle.loop_prog.specs.Paths.{all_assigned, assign, block_flow, body_start, both_paths, head, kept_by, meet}
-use Rattle.loop_prog.specs.Statements.{oper_regs, opers_regs}
+use Rattle.loop_prog.specs.Paths.{all_assigned, block_flow, both_paths, meet}
+use Rattle.loop_prog.specs.Statements.{oper_regs}
 use Rattle.loop_prog.specs.declared.paths.Paths.{Paths}
 use Rattle.loop_prog.specs.declared.program.Kernel.{Kernel}
 use Rattle.loop_prog.specs.declared.program.Reg.{Reg}
-use Rattle.loop_prog.specs.declared.program.Reg.TheVariants as reg
 use Rattle.loop_prog.specs.declared.program.Statement.{Statement}
 use Rattle.loop_prog.specs.declared.program.Statement.TheOpen as l
 use Rattle.loop_prog.specs.declared.program.Statement.TheVariants as v
@@ -174,16 +156,16 @@ module _ (heads : List Head) (names : List Ty) (kernel : Kernel) (held : Holds n
       Done (v.Return (map (back_of regs) values) ∷ []) (record { plain = false; tail = true; shut = true }) depth p b c
   return_done values depth p b c bound t =
       let closes = closed_for_return kernel.rets (map (back_of regs) values) in record {
-    some = refl;
-    middle = λ e. not_both (sym e);
-    ends = λ h. (
-      subst (λ (xs : List Statement). Passes kernel xs (last depth) p) (sym closes)
-          (one_passes kernel (l.Return (map (back_of regs) values)) _ (v.rolls-Return (map (back_of regs) values))
-          (last depth) p (both (both (reads_assigned names kernel held p _
-          (backs_assigned names kernel held b p t values bound)) refl) refl)),
-      ap has_some closes,
-    );
-  }
+        some = refl;
+        middle = λ e. not_both (sym e);
+        ends = λ h. (
+          subst (λ (xs : List Statement). Passes kernel xs (last depth) p) (sym closes)
+              (one_passes kernel (l.Return (map (back_of regs) values)) _ (v.rolls-Return (map (back_of regs) values))
+              (last depth) p (both (both (reads_assigned names kernel held p _
+              (backs_assigned names kernel held b p t values bound)) refl) refl)),
+          ap has_some closes,
+        );
+      }
 
   -- ---- an `If`
   module _ (cond : Oper) (part other : List Statement) (depth : ℕ) (p : Paths) (b m n : Bindings)
@@ -197,22 +179,23 @@ module _ (heads : List Head) (names : List Ty) (kernel : Kernel) (held : Holds n
         reads_assigned names kernel held p (oper_regs (oper_of regs cond))
         (scalar_assigned names kernel held b p t cond (truth_scalar names cond truth) bound)
 
-    pub if_middle : Middle (depth + 1) part p b m → Middle (depth + 1) other p b n → Middle depth whole p b (core_meet m n)
+    pub if_middle : Middle (depth + 1) part p b m → Middle (depth + 1) other p b n → Middle depth whole p b
+        (core_meet m n)
     if_middle first second =
         let y : l.Statement-F Statement = l.If (oper_of regs cond) part other in
         let met = meet_is names kernel held m n first.after second.after first.follow second.follow in record {
-      after = both_paths first.after second.after;
-      passes = one_passes kernel y _ (v.rolls-If (oper_of regs cond) part other) (mid depth) p
-          (both (both cond_assigned (both within refl))
-          (list_all-append keeps_paths (block_by kernel part (mid (depth + 1)) p)
-          (block_by kernel other (mid (depth + 1)) p) ∙ both first.passes second.passes));
-      flows = flow_by y _ (v.rolls-If (oper_of regs cond) part other) p ∙
-          (ap₂ (λ (x z : Paths). meet x z) first.flows second.flows ∙ met);
-      follow = follow_both names kernel held (core_meet m n) first.after second.after
-          (fewer names kernel held (core_meet m n) m first.after (meet_left m n) first.follow)
-          (fewer names kernel held (core_meet m n) n second.after (meet_right m n) second.follow);
-      more = meet_both b m n first.more second.more;
-    }
+          after = both_paths first.after second.after;
+          passes = one_passes kernel y _ (v.rolls-If (oper_of regs cond) part other) (mid depth) p
+              (both (both cond_assigned (both within refl))
+              (list_all-append keeps_paths (block_by kernel part (mid (depth + 1)) p)
+              (block_by kernel other (mid (depth + 1)) p) ∙ both first.passes second.passes));
+          flows = flow_by y _ (v.rolls-If (oper_of regs cond) part other) p ∙
+              (ap₂ (λ (x z : Paths). meet x z) first.flows second.flows ∙ met);
+          follow = follow_both names kernel held (core_meet m n) first.after second.after
+              (fewer names kernel held (core_meet m n) m first.after (meet_left m n) first.follow)
+              (fewer names kernel held (core_meet m n) n second.after (meet_right m n) second.follow);
+          more = meet_both b m n first.more second.more;
+        }
 
     pub if_ends : Ends (depth + 1) part p → Ends (depth + 1) other p → Ends depth whole p
     if_ends first second =

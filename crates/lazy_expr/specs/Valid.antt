@@ -28,7 +28,8 @@ is_shallow_at depth core = fold-Core (ℕ → Bool) shallow_step core depth
 abbrev pub is_shallow : Instance → Bool
 is_shallow f = list_all (is_shallow_at 0) f.body
 
--- A kernel has no flaw, whatever number its first statement has, and behind whatever kernels with other heads it stands.
+-- A kernel has no flaw, whatever number its first statement has, and behind whatever kernels with other heads it
+-- stands.
 abbrev pub KeepsConditions : Instance → Kernel → Type 0
 KeepsConditions f kernel =
     (program : Program) (number : ℕ) → IsSound program → slice_get program.instances number ≡ Some f →

@@ -24,8 +24,6 @@ pub fn plain_law()
 /// kernels call no own function.
 pub fn condition_law()
     ensures kernel { (f : AnyInstance) → is_flat f ≡ true → KeepsConditions f (plain_kernel f) }
-    ensures whole {
-        (program : AnyProgram) → IsSound program → has_flat_kernels program ≡ true →
-        ProgramKeepsConditions program (plain_program program)
-    }
+    ensures whole { (program : AnyProgram) → IsSound program → has_flat_kernels program ≡ true →
+        ProgramKeepsConditions program (plain_program program) }
 {}
