@@ -102,8 +102,9 @@ fn program_form(alloc: Global, program: &Program) -> Result<LoopProgram, NoMemor
 }
 
 /// The plain form of a sound program whose kernels call no own function: one kernel for each of its kernels, in order.
-/// Each has the outcomes that `plain` speaks of, and the program meets the conditions of loop programs where each kernel
-/// is as `plain` asks and no two have one name and the same parameter types. Takes time linear in the kernels' instances.
+/// Each has the outcomes that `plain` speaks of, and the program meets the conditions of loop programs where each
+/// kernel is as `plain` asks and no two have one name and the same parameter types. Takes time linear in the kernels'
+/// instances.
 pub fn plain_program(alloc: Global, program: &Program) -> Result<LoopProgram, NoMemory>
     requires sound { IsSound program.now }
     requires flat { has_flat_kernels program.now ≡ true }
