@@ -133,11 +133,19 @@ fn two_arrays(
     let mut params = Seq::new(alloc);
     params.push((list(alloc, b"a")?, ParamType::Flat(Kind::Int64, 1)))?;
     params.push((list(alloc, b"b")?, ParamType::Flat(Kind::Int64, 1)))?;
+    let mut kinds = Seq::new(alloc);
+    for _word in 0..words {
+        kinds.push(Kind::Int64)?;
+    }
+    let mut types = Seq::new(alloc);
+    for _view in 0..views {
+        types.push((Kind::Int64, 1))?;
+    }
     Ok(Kernel {
         name: list(alloc, name)?,
         params,
-        regs: list(alloc, &[Kind::Int64; 6][..words])?,
-        views: list(alloc, &[(Kind::Int64, 1); 3][..views])?,
+        regs: kinds,
+        views: types,
         rets: list(alloc, rets)?,
         body: Seq::new(alloc),
     })
