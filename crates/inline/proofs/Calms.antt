@@ -51,7 +51,7 @@ here_or_later p a k low here later (inr at) =
     let same : a ≡ k = omega (arith, low, at) in
     subst (λ (i : ℕ). p i ≡ true) same here
 
-one_of : (p : ℕ → Bool) (a n k : ℕ) → list_all p (range_with_len a n) ≡ true → a ≤ k → k < a + n → p k ≡ true
+pub one_of : (p : ℕ → Bool) (a n k : ℕ) → list_all p (range_with_len a n) ≡ true → a ≤ k → k < a + n → p k ≡ true
 one_of p a zero k all low high = absurd (omega (arith, low, high))
 one_of p a (suc n) k all low high =
     here_or_later p a k low (left (p a) (list_all p (range_with_len (a + 1) n)) all)

@@ -30,6 +30,10 @@ calm_by effects number (Some f) =
 abbrev pub calm_in : Program → Effects → ℕ → Bool
 calm_in program effects number = calm_by effects number (slice_get program.instances number)
 
+-- no call is left out
+abbrev pub none_calm : ℕ → Bool
+none_calm number = false
+
 abbrev pub is_none : {A : Type 0} → List A → Bool
 is_none [] = true
 is_none (x ∷ xs) = false

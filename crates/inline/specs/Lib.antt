@@ -6,3 +6,5 @@ pub mod Own
 pub mod Idle
 pub mod Flat
 pub mod Flattened
+pub mod Dropped
+pub mod Kept

@@ -5,9 +5,13 @@ ghost use Rattle.purity.specs.Answers.{AreEffects};
 ghost use Rattle.inline.specs.Flat as spec;
 ghost use Rattle.inline.specs.Flattened.{HasNoCalls, IsStop};
 ghost use Rattle.inline.specs.Idle.{AreCalm, calm_in};
+ghost use Rattle.inline.specs.Kept.{RankedOutcomes};
 ghost use Rattle.inline.specs.Limits.{refusal};
 ghost use Rattle.inline.specs.Places.{home};
+ghost use Rattle.eager_rules.specs.Sound.{IsSound};
+ghost use Rattle.purity.specs.Soundness.{FaultsNever, WritesNoOthers};
 
+use crate::laws::flat_form_keeps_outcomes;
 use crate::limits::refused;
 use crate::lower::lower_all;
 use crate::moves::Out;
@@ -140,6 +144,14 @@ fn flat_has_no_calls(program: &Program, effects: &Effects)
     ensures { HasNoCalls (spec.flat_program program.now (calm_in program.now effects.now)) }
 {}
 
+/// The flat form of a sound program has its outcomes, where the effects hold of evaluation.
+fn flat_keeps_outcomes(program: &Program, effects: &Effects)
+    ensures { IsSound program.now → WritesNoOthers program.now effects.now → FaultsNever program.now effects.now →
+        RankedOutcomes program.now (spec.flat_program program.now (calm_in program.now effects.now)) }
+{
+    flat_form_keeps_outcomes();
+}
+
 /// The calls that are left out are those of instances that write no parameter and can't fault.
 fn calm_are_calm(program: &Program, effects: &Effects)
     requires { AreEffects program.now effects.now }
@@ -165,6 +177,11 @@ pub fn flatten(
     requires effects { AreEffects program.now effects.now }
     ensures form { IfOk result (λ flat. flat ≡ spec.flat_program program.now (calm_in program.now effects.now)) }
     ensures flat { IfOk result HasNoCalls }
+
+    // Of a sound program whose effects hold of eager evaluation, each kernel of the flat form has the kernel's outcome
+    // on each call that fits: the values, the final buffers, and the fault with its place in the called function.
+    ensures outcomes { IfOk result (λ flat. IsSound program.now → WritesNoOthers program.now effects.now →
+        FaultsNever program.now effects.now → RankedOutcomes program.now flat) }
     ensures left_out { AreCalm program.now.instances (calm_in program.now effects.now) }
     ensures accepted { IfOk result (λ flat. refusal program.now signatures.now ≡ None) }
     ensures refused { IfErr result (IsStop (refusal program.now signatures.now)) }
@@ -174,6 +191,7 @@ pub fn flatten(
         Some(refusal) => Err(Stop::Refused(refusal)),
         None => {
             flat_has_no_calls(program, effects);
+            flat_keeps_outcomes(program, effects);
             let flat = program_form(alloc, program, effects)?;
             Ok(flat)
         }

@@ -4,8 +4,10 @@
 
 mod copies;
 mod counts;
+mod dropping;
 mod flat_form;
 mod idle;
+mod laws;
 mod limits;
 mod lower;
 mod moves;
