@@ -210,7 +210,8 @@ module _ (calls others : Calls) (flat : Inline) (heads : List Head) (follow : Ca
       (entry_held k None size (length f.params) values t tt (λ n lt. refl) (params_within heads f typed) room) enough
 
   whole : (o : Option ℕ) (to : List ℕ) (values : List Bound) → own_of f ≡ o → length to ≤ length f.rets →
-      list_all (λ n. nat_lt n k) to ≡ true → k + size + length (form_by o to).fresh ≤ length t.names → WholeBody o to values
+      list_all (λ n. nat_lt n k) to ≡ true → k + size + length (form_by o to).fresh ≤ length t.names →
+      WholeBody o to values
   whole None to values is takes low enough = whole_plain to values takes low enough
   whole (Some name) [] values is takes low enough = whole_plain [] values takes low enough
   whole (Some name) (target ∷ to) values is takes low enough =

@@ -13,7 +13,7 @@ use Rattle.inline.proofs.DropTrees.{Stands, all_bodies, drop}
 use Rattle.inline.proofs.Trees.{Good, by_layers, fused}
 use Rattle.inline.proofs.TypeTests.{and_left, and_right, not_true}
 
-abbrev shape : Core → Shape
+abbrev pub shape : Core → Shape
 shape = fold-Core Shape shape_step
 
 both_true : (a b : Bool) → a ≡ true → b ≡ true → a && b ≡ true
@@ -21,22 +21,22 @@ both_true true b h k = k
 both_true false b h k = h
 
 -- one shape, and then another
-abbrev then_shape : Shape → Shape → Shape
+abbrev pub then_shape : Shape → Shape → Shape
 then_shape a b = record { plain = a.plain && b.plain; tail = a.plain && b.tail; shut = a.plain && b.shut }
 
 pub record Better (a b : Shape) : Type 0 where
-  plain_too : a.plain ≡ true → b.plain ≡ true
-  tail_too : a.tail ≡ true → b.tail ≡ true
-  shut_too : a.shut ≡ true → b.shut ≡ true
+  pub plain_too : a.plain ≡ true → b.plain ≡ true
+  pub tail_too : a.tail ≡ true → b.tail ≡ true
+  pub shut_too : a.shut ≡ true → b.shut ≡ true
 
-same_better : (a : Shape) → Better a a
+pub same_better : (a : Shape) → Better a a
 same_better a = record { plain_too = λ e. e; tail_too = λ e. e; shut_too = λ e. e }
 
-is_better : (a b : Shape) → a ≡ b → Better a b
+pub is_better : (a b : Shape) → a ≡ b → Better a b
 is_better a b e = subst (Better a) e (same_better a)
 
 -- ---- what never returns returns in tail position alone
-abbrev Ordered : Shape → Type 0
+abbrev pub Ordered : Shape → Type 0
 Ordered s = s.plain ≡ true → s.tail ≡ true
 
 abbrev IsOrdered : Core → Type 0
@@ -45,7 +45,7 @@ IsOrdered x = Ordered (shape x)
 abbrev shapes : List (Good IsOrdered) → List Shape
 shapes gs = map (λ (g : Good IsOrdered). shape g.0) gs
 
-then_ordered : (a b : Shape) → Ordered b → Ordered (then_shape a b)
+pub then_ordered : (a b : Shape) → Ordered b → Ordered (then_shape a b)
 then_ordered a b h e = both_true a.plain b.tail (and_left a.plain b.plain e) (h (and_right a.plain b.plain e))
 
 block_ordered : (gs : List (Good IsOrdered)) → Ordered (block_shape (shapes gs))
@@ -75,7 +75,7 @@ ordered_case (c.Reduce to op of at) e = refl
 ordered_case (c.Store of value at) e = refl
 ordered_case (c.Call to instance args) e = refl
 
-ordered : (x : Core) → IsOrdered x
+pub ordered : (x : Core) → IsOrdered x
 ordered = by_layers IsOrdered (λ y. layer y)
   where
     layer : (y : c.Core-F (Good IsOrdered)) → IsOrdered (roll-Core (map-Core (Good IsOrdered) Core (λ g. g.0) y))
@@ -85,8 +85,13 @@ ordered = by_layers IsOrdered (λ y. layer y)
         ap shape_step (fused IsOrdered Shape shape y) ∙ sym (fold-roll-Core Shape shape_step x) in
         subst Ordered same (ordered_case y)
 
+pub in_order : (xs : List Core) → Ordered (block_shape (map shape xs))
+in_order [] e = refl
+in_order (x ∷ []) e = ordered x e
+in_order (x ∷ y ∷ xs) e = then_ordered (shape x) (block_shape (map shape (y ∷ xs))) (in_order (y ∷ xs)) e
+
 -- ---- blocks
-then_better : (a b x y : Shape) → Better a x → Better b y → Better (then_shape a b) (then_shape x y)
+pub then_better : (a b x y : Shape) → Better a x → Better b y → Better (then_shape a b) (then_shape x y)
 then_better a b x y f g = record {
   plain_too = λ e. both_true x.plain y.plain (f.plain_too (and_left a.plain b.plain e))
       (g.plain_too (and_right a.plain b.plain e));
@@ -127,7 +132,7 @@ regroup a b x y f z g = record {
       (g.shut_too (both_true y.plain b.shut (and_right x.plain y.plain p) (and_right a.plain b.shut e)));
 }
 
-append_better : (xs ys : List Core) (a b : Shape) → Better a (block_shape (map shape xs)) →
+pub append_better : (xs ys : List Core) (a b : Shape) → Better a (block_shape (map shape xs)) →
     Better b (block_shape (map shape ys)) → Better (then_shape a b) (block_shape (map shape (xs ++ ys)))
 append_better [] ys a b f g = nothing_then a b (block_shape (map shape ys)) g
 append_better (x ∷ []) [] a b f g = then_nothing a b (shape x) (ordered x) f g
@@ -136,6 +141,20 @@ append_better (x ∷ z ∷ xs) ys a b f g =
     regroup a b (shape x) (block_shape (map shape (z ∷ xs))) f (block_shape (map shape ((z ∷ xs) ++ ys)))
     (append_better (z ∷ xs) ys (block_shape (map shape (z ∷ xs))) b
     (same_better (block_shape (map shape (z ∷ xs)))) g)
+
+pub both_better : (a b x y : Shape) → Better a x → Better b y → Better (both_shapes a b) (both_shapes x y)
+both_better a b x y f g = record {
+  plain_too = λ e. both_true x.plain y.plain (f.plain_too (and_left a.plain b.plain e))
+      (g.plain_too (and_right a.plain b.plain e));
+  tail_too = λ e. both_true x.tail y.tail (f.tail_too (and_left a.tail b.tail e))
+      (g.tail_too (and_right a.tail b.tail e));
+  shut_too = λ e. both_true x.shut y.shut (f.shut_too (and_left a.shut b.shut e))
+      (g.shut_too (and_right a.shut b.shut e));
+}
+
+pub loop_better : (a x : Shape) → Better a x → Better (record { plain = a.plain; tail = a.plain; shut = false })
+    (record { plain = x.plain; tail = x.plain; shut = false })
+loop_better a x f = record { plain_too = f.plain_too; tail_too = f.plain_too; shut_too = λ e. e }
 
 module _ (calm : ℕ → Bool) where
   abbrev Keeps : Core → List Core → Type 0
@@ -149,16 +168,6 @@ module _ (calm : ℕ → Bool) where
   block_better (x ∷ y ∷ xs) h =
       append_better (drop calm x) (without calm (y ∷ xs)) (shape x) (block_shape (map shape (y ∷ xs))) h.0
       (block_better (y ∷ xs) h.1)
-
-  both_better : (a b x y : Shape) → Better a x → Better b y → Better (both_shapes a b) (both_shapes x y)
-  both_better a b x y f g = record {
-    plain_too = λ e. both_true x.plain y.plain (f.plain_too (and_left a.plain b.plain e))
-        (g.plain_too (and_right a.plain b.plain e));
-    tail_too = λ e. both_true x.tail y.tail (f.tail_too (and_left a.tail b.tail e))
-        (g.tail_too (and_right a.tail b.tail e));
-    shut_too = λ e. both_true x.shut y.shut (f.shut_too (and_left a.shut b.shut e))
-        (g.shut_too (and_right a.shut b.shut e));
-  }
 
   -- a statement by its own layer
   by_layer : (x y : c.Core-F Core) → Better (shape_step (map-Core Core Shape shape x))
@@ -182,10 +191,6 @@ module _ (calm : ℕ → Bool) where
       (loop_better (block_shape (map shape inside)) (block_shape (map shape (without calm inside)))
       (block_better inside f)))
       body)
-    where
-      loop_better : (a x : Shape) → Better a x → Better (record { plain = a.plain; tail = a.plain; shut = false })
-          (record { plain = x.plain; tail = x.plain; shut = false })
-      loop_better a x f = record { plain_too = f.plain_too; tail_too = f.plain_too; shut_too = λ e. e }
 
   -- values are returned on every path, or on none
   pub still_returns : (rets : List Ty) (body : List Core) → returns_values rets (shape_of_body body) ≡ true →

@@ -182,21 +182,21 @@ module _ (R : ℕ → Type 0) (calm : ℕ → Bool) where
       (λ to k xs e. one_below (roll-Core (c.Call to k xs))) (λ k xs e f. tt) if_below for_below body)
 
 -- ---- names that are bound
-abbrev walk_of : Core → Bindings → Option Bindings
+abbrev pub walk_of : Core → Bindings → Option Bindings
 walk_of = fold-Core (Bindings → Option Bindings) walk_step
 
-abbrev walks : List Core → Bindings → Option Bindings
+abbrev pub walks : List Core → Bindings → Option Bindings
 walks xs = in_walk (map walk_of xs)
 
 abbrev Walks : Core → List Core → Type 0
 Walks x xs = (names last : Bindings) → walk_of x names ≡ Some last → walks xs names ≡ Some last
 
-next_given : (o : Option Bindings) (f : Bindings → Option Bindings) (last : Bindings) → next o f ≡ Some last →
+pub next_given : (o : Option Bindings) (f : Bindings → Option Bindings) (last : Bindings) → next o f ≡ Some last →
     (mid : Bindings) × (o ≡ Some mid) × (f mid ≡ Some last)
 next_given None f last e = none_some last e
 next_given (Some mid) f last e = (mid, refl, e)
 
-both_given : (a b : Option Bindings) (last : Bindings) → both a b ≡ Some last →
+pub both_given : (a b : Option Bindings) (last : Bindings) → both a b ≡ Some last →
     (x : Bindings) × (y : Bindings) × (a ≡ Some x) × (b ≡ Some y)
 both_given None b last e = none_some last e
 both_given (Some x) None last e = none_some last e
@@ -207,7 +207,7 @@ tested_same : (test : Bool) (a b : Option Bindings) (last : Bindings) → (a ≡
 tested_same true a b last f e = f e
 tested_same false a b last f e = none_some last e
 
-append_walks : (xs ys : List Core) (names mid last : Bindings) → walks xs names ≡ Some mid →
+pub append_walks : (xs ys : List Core) (names mid last : Bindings) → walks xs names ≡ Some mid →
     walks ys mid ≡ Some last → walks (xs ++ ys) names ≡ Some last
 append_walks [] ys names mid last e f = ap (walks ys) (some_same names mid e) ∙ f
 append_walks (x ∷ xs) ys names mid last e f =

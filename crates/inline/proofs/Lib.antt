@@ -12,6 +12,7 @@ pub mod Cuts
 pub mod Simulation
 pub mod Entry
 pub mod Depths
+pub mod Kernels
 pub mod Outcomes
 pub mod TypeTests
 pub mod RankShapes
@@ -29,3 +30,13 @@ pub mod DropForm
 pub mod DropShapes
 pub mod DropSound
 pub mod Composed
+pub mod BoundTests
+pub mod TypePlaces
+pub mod FlatMoves
+pub mod FlatShapes
+pub mod FlatStatements
+pub mod OwnTypes
+pub mod Ranks
+pub mod FreshRanks
+pub mod FlatCalls
+pub mod FlatSound

@@ -1,11 +1,10 @@
 -- The flat form of a sound program, with none of its calls left out, has the program's outcomes.
-use Rattle.std.proofs.Common.{◌≡◌, ◌∙◌, ap, ap₂, sym, subst, refl, arith, ℕ, zero, suc, ◌+◌, ◌<◌, ◌≤◌, Bool, true}
+use Rattle.std.proofs.Common.{◌≡◌, ◌∙◌, ap, ap₂, sym, subst, refl, arith, ℕ, ◌+◌, ◌<◌, ◌≤◌, Bool, true}
 use Rattle.std.proofs.Common.{List, [], ◌∷◌, ◌++◌, map, length, replicate, Option, Some, None, ℤ}
 use Rattle.std.proofs.lemmas.List.{length-append, length-replicate}
-use Rattle.std.proofs.lemmas.List.FromFn.{get_or-range_with_len, length-range_with_len}
-use Rattle.std.proofs.lemmas.Option.{get_or_from_slice_get, slice_get-get_or, slice_get_read, slice_get_within}
+use Rattle.std.proofs.lemmas.Option.{get_or_from_slice_get, slice_get_within}
 use Rattle.std.specs.Prelude.{slice_get}
-use Rattle.std.specs.List.{All, flat_map, list_all, range_with_len}
+use Rattle.std.specs.List.{list_all, range_with_len}
 use Rattle.krn_base.specs.declared.kind.Kind.{Kind}
 use Rattle.array_ops.specs.Elements.{Bound, Unbound}
 use Rattle.eager_rules.specs.Blocks.{End, GoesOn, Returned, Faulted, Stuck}
@@ -19,7 +18,7 @@ use Rattle.eager_rules.specs.declared.program.Core.TheVariants as v
 use Rattle.eager_rules.specs.declared.program.Instance.{Instance}
 use Rattle.eager_rules.specs.declared.program.Oper.{Oper}
 use Rattle.eager_rules.specs.declared.program.Program.{Program}
-use Rattle.inline.specs.Flat.{Lowered, flat_at, flat_body, flat_program, kernel_at, kernel_of}
+use Rattle.inline.specs.Flat.{Lowered, flat_at, flat_body, flat_program, kernel_of}
 use Rattle.inline.specs.Idle.{none_calm}
 use Rattle.inline.specs.Kept.{HasOutcomes}
 use Rattle.inline.specs.Own.{only_name, returned}
@@ -29,9 +28,9 @@ use Rattle.inline.proofs.Depths.{Anything, all_anything, calls_follow}
 use Rattle.inline.proofs.Entry.{empty_held, params_within, placed_range, range_below, returns_tail}
 use Rattle.inline.proofs.Fates.{Fate}
 use Rattle.inline.proofs.Frames.{Held, and_both, bind_all_held, operands_held, reads_held}
+use Rattle.inline.proofs.Kernels.{counted_there, kernel_there}
 use Rattle.inline.proofs.Moving.{block_one}
 use Rattle.inline.proofs.Simulation.{body_follows}
-use Rattle.inline.proofs.Takes.{none_some, some_same}
 
 module _ (instances : List Instance) (others : Calls)
     (typed : (i : ℕ) (f : Instance) → slice_get instances i ≡ Some f → IsWellTyped (map head_of instances) f)
@@ -113,30 +112,6 @@ module _ (instances : List Instance) (others : Calls)
       (block others form.body (entered kernel args buffers)) follows free
 
 -- ---- a program
--- each number is an instance's, so kernels stand where their numbers do
-kernel_there : (instances : List Instance) (numbers : List ℕ) (k number : ℕ) (f : Instance) →
-    All (λ n. n < length instances) numbers → slice_get numbers k ≡ Some number →
-    slice_get instances number ≡ Some f →
-    slice_get (flat_map (λ n. kernel_at instances none_calm (slice_get instances n)) numbers) k ≡
-    Some (kernel_of f (flat_body instances none_calm f))
-kernel_there instances [] k number f all e h = none_some number e
-kernel_there instances (n ∷ numbers) zero number f all e h =
-    ap (λ (o : Option Instance). slice_get (kernel_at instances none_calm o
-    ++ flat_map (λ m. kernel_at instances none_calm (slice_get instances m)) numbers) 0)
-    (ap (slice_get instances) (some_same n number e) ∙ h)
-kernel_there instances (n ∷ numbers) (suc k) number f all e h =
-    let within : n < length instances = all 0 0 (omega arith) in
-    ap (λ (o : Option Instance). slice_get (kernel_at instances none_calm o
-    ++ flat_map (λ m. kernel_at instances none_calm (slice_get instances m)) numbers) (suc k))
-    (slice_get-get_or instances n f within) ∙
-    kernel_there instances numbers k number f (λ i d inside. all (suc i) d (omega (arith, inside))) e h
-
-counted_there : (n k : ℕ) → k < n → slice_get (range_with_len 0 n) k ≡ Some k
-counted_there n k lt =
-    let place : 0 + k ≡ k = omega arith in
-    slice_get_read (range_with_len 0 n) n k k (sym (length-range_with_len 0 n)) lt
-    (sym (get_or-range_with_len 0 n k k lt ∙ place))
-
 module _ (never : (program : Program) → IsSound program → IsNeverStuck program) (program : Program)
     (sound : IsSound program) where
   well_typed : (i : ℕ) (f : Instance) → slice_get program.instances i ≡ Some f →
@@ -152,7 +127,7 @@ module _ (never : (program : Program) → IsSound program → IsNeverStuck progr
   has_outcomes k f is call fits =
       let kernel : Instance = kernel_of f (flat_body program.instances none_calm f) in
       let there : slice_get flat.instances k ≡ Some kernel =
-      kernel_there program.instances program.kernels k is.number f sound.typed.kernels is.numbered is.there in
+      kernel_there program.instances none_calm program.kernels k is.number f sound.typed.kernels is.numbered is.there in
       let within : k < length flat.instances = slice_get_within flat.instances k kernel there in
       let mine : outcome_of program k call ≡
       instance_outcome program.instances (length program.instances) f call =

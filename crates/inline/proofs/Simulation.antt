@@ -46,11 +46,11 @@ use Rattle.inline.proofs.Moving.{block_joined, block_one, then_nothing}
 use Rattle.inline.proofs.Takes.{CallFollows, Landed, call_takes, oper_below, takes_same}
 use Rattle.inline.proofs.Trees.{Good, by_layers}
 
-every_left : {A : Type 0} (P : A → Type 0) (xs ys : List A) → AllByRecursion P (xs ++ ys) → AllByRecursion P xs
+pub every_left : {A : Type 0} (P : A → Type 0) (xs ys : List A) → AllByRecursion P (xs ++ ys) → AllByRecursion P xs
 every_left P [] ys h = tt
 every_left P (x ∷ xs) ys h = (h.0, every_left P xs ys h.1)
 
-every_right : {A : Type 0} (P : A → Type 0) (xs ys : List A) → AllByRecursion P (xs ++ ys) → AllByRecursion P ys
+pub every_right : {A : Type 0} (P : A → Type 0) (xs ys : List A) → AllByRecursion P (xs ++ ys) → AllByRecursion P ys
 every_right P [] ys h = h
 every_right P (x ∷ xs) ys h = every_right P xs ys h.1
 

@@ -8,3 +8,4 @@ pub mod Flat
 pub mod Flattened
 pub mod Dropped
 pub mod Kept
+pub mod Heads

@@ -4,6 +4,7 @@ ghost use Rattle.std.specs.List.{range_with_len};
 ghost use Rattle.purity.specs.Answers.{AreEffects};
 ghost use Rattle.inline.specs.Flat as spec;
 ghost use Rattle.inline.specs.Flattened.{HasNoCalls, IsStop};
+ghost use Rattle.inline.specs.Heads.{HasKernels};
 ghost use Rattle.inline.specs.Idle.{AreCalm, calm_in};
 ghost use Rattle.inline.specs.Kept.{RankedOutcomes};
 ghost use Rattle.inline.specs.Limits.{refusal};
@@ -16,6 +17,7 @@ use crate::limits::refused;
 use crate::lower::lower_all;
 use crate::moves::Out;
 use crate::places::Place;
+use crate::soundness::flat_form_is_sound;
 use eager_rules::{Instance, Program};
 use export_sig::Signature;
 use krn_base::{NoMemory, ParamType, Seq, Stop, Text};
@@ -144,6 +146,11 @@ fn flat_has_no_calls(program: &Program, effects: &Effects)
     ensures { HasNoCalls (spec.flat_program program.now (calm_in program.now effects.now)) }
 {}
 
+/// The kernels of a flat form have the heads of the program's.
+fn flat_has_kernels(program: &Program, effects: &Effects)
+    ensures { HasKernels program.now (spec.flat_program program.now (calm_in program.now effects.now)) }
+{}
+
 /// The flat form of a sound program has its outcomes, where the effects hold of evaluation.
 fn flat_keeps_outcomes(program: &Program, effects: &Effects)
     ensures { IsSound program.now → WritesNoOthers program.now effects.now → FaultsNever program.now effects.now →
@@ -177,6 +184,8 @@ pub fn flatten(
     requires effects { AreEffects program.now effects.now }
     ensures form { IfOk result (λ flat. flat ≡ spec.flat_program program.now (calm_in program.now effects.now)) }
     ensures flat { IfOk result HasNoCalls }
+    ensures sound { IfOk result (λ flat. IsSound program.now → IsSound flat) }
+    ensures kernels { IfOk result (λ flat. HasKernels program.now flat) }
 
     // Of a sound program whose effects hold of eager evaluation, each kernel of the flat form has the kernel's outcome
     // on each call that fits: the values, the final buffers, and the fault with its place in the called function.
@@ -191,6 +200,8 @@ pub fn flatten(
         Some(refusal) => Err(Stop::Refused(refusal)),
         None => {
             flat_has_no_calls(program, effects);
+            flat_has_kernels(program, effects);
+            flat_form_is_sound();
             flat_keeps_outcomes(program, effects);
             let flat = program_form(alloc, program, effects)?;
             Ok(flat)

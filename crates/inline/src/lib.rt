@@ -13,6 +13,7 @@ mod lower;
 mod moves;
 mod own;
 mod places;
+mod soundness;
 #[cfg(test)]
 mod tests;
 
