@@ -1,0 +1,16 @@
+pub mod Facts
+pub mod TallyLaws
+pub mod LearnLaws
+pub mod RoundLaws
+pub mod FoldTests
+pub mod FoldTrees
+pub mod Right
+pub mod FoldTypes
+pub mod FoldShapes
+pub mod FoldBindings
+pub mod FoldSound
+pub mod Steps
+pub mod Cuts
+pub mod Alikes
+pub mod Runs
+pub mod FoldOutcomes

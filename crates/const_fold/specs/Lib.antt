@@ -1,0 +1,4 @@
+pub mod Folded
+pub mod Copies
+pub mod Tallies
+pub mod Promise
