@@ -8,7 +8,7 @@ use eager_rules::{Core, Oper};
 use krn_base::{NoMemory, Seq};
 use std::alloc::Global;
 
-/// A copy of a statement on extents, elements and reductions, of a call or a Return, and of nothing else.
+/// A copy of a statement on an extent or an element, of a call or a Return, and of nothing else.
 fn add_element_copy(
     core: &Core,
     table: &[Option<Oper>],
@@ -38,12 +38,6 @@ fn add_element_copy(
             of: *of,
             index: folded_all(alloc, table, index.as_slice())?,
             value: folded(table, *value),
-            at: *at,
-        })?,
-        Core::Reduce { to, op, of, at } => body.push(Core::Reduce {
-            to: *to,
-            op: *op,
-            of: *of,
             at: *at,
         })?,
         Core::Call { to, instance, args } => body.push(Core::Call {
@@ -87,6 +81,12 @@ fn add_array_copy(
             to: *to,
             op: *op,
             args: folded_all(alloc, table, args.as_slice())?,
+            at: *at,
+        })?,
+        Core::Reduce { to, op, of, at } => body.push(Core::Reduce {
+            to: *to,
+            op: *op,
+            of: *of,
             at: *at,
         })?,
         Core::Store { of, value, at } => body.push(Core::Store {

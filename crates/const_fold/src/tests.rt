@@ -138,6 +138,47 @@ fn program_of(
 
 const NONE: &[Plain] = &[];
 
+/// A move.
+const MOVED: Body = (
+    &[
+        Plain::Word(2, WordOp::Move, &[Oper::Int(4)]),
+        Plain::Return(&[Oper::Name(2)]),
+    ],
+    NONE,
+    NONE,
+);
+
+/// A parameter that is bound again.
+const PARAMETER: Body = (
+    &[
+        Plain::Word(0, ADD, &[Oper::Int(4), Oper::Int(4)]),
+        Plain::Return(&[Oper::Name(0)]),
+    ],
+    NONE,
+    NONE,
+);
+
+/// A name that is bound twice.
+const TWICE: Body = (
+    &[
+        Plain::Word(2, ADD, &[Oper::Int(4), Oper::Int(4)]),
+        Plain::Get(2, 1, &[Oper::Name(2)]),
+        Plain::Return(&[Oper::Name(2)]),
+    ],
+    NONE,
+    NONE,
+);
+
+/// An array, and a name that isn't there.
+const NOWHERE: Body = (
+    &[
+        Plain::Word(8, ADD, &[Oper::Int(4), Oper::Int(4)]),
+        Plain::Word(9, ADD, &[Oper::Int(4), Oper::Int(4)]),
+    ],
+    NONE,
+    NONE,
+);
+
 /// A body and its folded form.
 static BODIES: [(Body, Body); 14] = [
     // a chain of literals
@@ -219,64 +260,11 @@ static BODIES: [(Body, Body); 14] = [
         ),
     ),
     // so does a move
-    (
-        (
-            &[
-                Plain::Word(2, WordOp::Move, &[Oper::Int(4)]),
-                Plain::Return(&[Oper::Name(2)]),
-            ],
-            NONE,
-            NONE,
-        ),
-        (
-            &[
-                Plain::Word(2, WordOp::Move, &[Oper::Int(4)]),
-                Plain::Return(&[Oper::Name(2)]),
-            ],
-            NONE,
-            NONE,
-        ),
-    ),
+    (MOVED, MOVED),
     // a parameter that is bound again
-    (
-        (
-            &[
-                Plain::Word(0, ADD, &[Oper::Int(4), Oper::Int(4)]),
-                Plain::Return(&[Oper::Name(0)]),
-            ],
-            NONE,
-            NONE,
-        ),
-        (
-            &[
-                Plain::Word(0, ADD, &[Oper::Int(4), Oper::Int(4)]),
-                Plain::Return(&[Oper::Name(0)]),
-            ],
-            NONE,
-            NONE,
-        ),
-    ),
+    (PARAMETER, PARAMETER),
     // a name that is bound twice
-    (
-        (
-            &[
-                Plain::Word(2, ADD, &[Oper::Int(4), Oper::Int(4)]),
-                Plain::Get(2, 1, &[Oper::Name(2)]),
-                Plain::Return(&[Oper::Name(2)]),
-            ],
-            NONE,
-            NONE,
-        ),
-        (
-            &[
-                Plain::Word(2, ADD, &[Oper::Int(4), Oper::Int(4)]),
-                Plain::Get(2, 1, &[Oper::Name(2)]),
-                Plain::Return(&[Oper::Name(2)]),
-            ],
-            NONE,
-            NONE,
-        ),
-    ),
+    (TWICE, TWICE),
     // a name to which a loop adds, and the loop's end
     (
         (
@@ -374,24 +362,7 @@ static BODIES: [(Body, Body); 14] = [
         (&[Plain::Return(&[Oper::Int(9)])], NONE, NONE),
     ),
     // an array, and a name that isn't there
-    (
-        (
-            &[
-                Plain::Word(8, ADD, &[Oper::Int(4), Oper::Int(4)]),
-                Plain::Word(9, ADD, &[Oper::Int(4), Oper::Int(4)]),
-            ],
-            NONE,
-            NONE,
-        ),
-        (
-            &[
-                Plain::Word(8, ADD, &[Oper::Int(4), Oper::Int(4)]),
-                Plain::Word(9, ADD, &[Oper::Int(4), Oper::Int(4)]),
-            ],
-            NONE,
-            NONE,
-        ),
-    ),
+    (NOWHERE, NOWHERE),
     // nothing
     ((NONE, NONE, NONE), (NONE, NONE, NONE)),
 ];
