@@ -11,7 +11,6 @@ use Rattle.call_binding.specs.declared.head.BindStop.{BindStop}
 use Rattle.call_binding.specs.declared.head.BindStop.TheVariants as stop
 use Rattle.call_binding.specs.declared.head.BoundCall.{BoundCall}
 use Rattle.call_binding.specs.declared.head.KernelHead.{KernelHead}
-use Rattle.eager_rules.specs.declared.program.Program.{Program}
 use Rattle.host_io.specs.Counts.{Rose}
 use Rattle.host_io.specs.Files.{Held, Untold, Missing, Bytes}
 use Rattle.host_io.specs.declared.files.Files as files_trait
@@ -26,6 +25,7 @@ use Rattle.call_words.specs.Request.{Asked}
 use Rattle.pythran_main.specs.Steps.{Prepared, Prepares, CallsTo, LeadsTo, IsUnloaded, stopped}
 use Rattle.pythran_main.specs.World.{Filed, AreKept, files_of}
 use Rattle.pythran_main.specs.declared.answer.Report.{Report}
+use Rattle.pythran_main.specs.declared.flattening.Flattened.{Flattened}
 use Rattle.pythran_main.specs.declared.trouble.Trouble.{Trouble}
 use Rattle.pythran_main.specs.declared.trouble.Trouble.TheVariants as trouble
 use Rattle.pythran_main.proofs.Saves.{rose_since}
@@ -175,15 +175,15 @@ module _ (asked : Asked) (source : Source) (held : List ℕ → Held) (heads : L
 
 module _ (asked : Asked) (file : List ℕ) where
   -- another answer follows from the same reading
-  followed : (held : List ℕ → Held) (read : Result Program Refusal) (arrays : List (Option Array)) (other : Answer)
-      → IsOneReading asked.command file read → IsRead asked held (Whole file) arrays other
+  followed : (held : List ℕ → Held) (read : Result Flattened Refusal) (arrays : List (Option Array)) (other : Answer)
+      → IsOneReading file read → IsRead asked held (Whole file) arrays other
       → IsFollowed asked held (source_in asked.command read) arrays other
   followed held read arrays other one (found, (as_read, reading, is), follows) =
       let P : Result Source Refusal → Type 0 = λ x. IsFollowed asked held x arrays other in
-      let Q : Result Program Refusal → Type 0 = λ x. IsFollowed asked held (source_in asked.command x) arrays other in
+      let Q : Result Flattened Refusal → Type 0 = λ x. IsFollowed asked held (source_in asked.command x) arrays other in
       subst Q (one.alone as_read reading) (subst P is follows)
 
-  module _ (k : Program) (one : IsOneReading asked.command file (Ok k)) where
+  module _ (k : Flattened) (one : IsOneReading file (Ok k)) where
     abbrev source : Source
     source = source_of asked.command k
 
@@ -225,7 +225,7 @@ module _ (asked : Asked) (file : List ℕ) where
         prepared_as files.faults_before files.faults_after files.faults_before files.faults_after _ _ r (λ h. h)
         (λ a c. called files.before a c) p
 
-  pub refused_alone : (held : List ℕ → Held) (r : Refusal) → IsOneReading asked.command file (Err r)
+  pub refused_alone : (held : List ℕ → Held) (r : Refusal) → IsOneReading file (Err r)
       → LeadsTo asked (Whole file) held (answer.Refused r)
   refused_alone held r one = record {
     arrays = [];

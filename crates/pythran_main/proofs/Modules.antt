@@ -1,5 +1,5 @@
 -- Each layer has one reading.
-use Rattle.std.proofs.Common.{◌≡◌, ℕ, true, List, [], refl, sym, ◌∙◌, ap, subst, Option, Some, None, Result, Ok, Err}
+use Rattle.std.proofs.Common.{◌≡◌, ℕ, List, refl, sym, ◌∙◌, ap, subst, Result, Ok, Err}
 use Rattle.std.specs.Result.{OnOk, IfErr}
 use Rattle.krn_base.specs.declared.place.Loc.{Loc}
 use Rattle.krn_base.specs.declared.refusal.Refusal.{Refusal}
@@ -10,16 +10,14 @@ use Rattle.array_types.specs.Modules.{program_of, IsProgramOf}
 use Rattle.array_types.specs.declared.state.Signature.{Signature as Numbered}
 use Rattle.eager_rules.specs.declared.program.Program.{Program}
 use Rattle.export_sig.specs.NoteLists as notes
-use Rattle.export_sig.specs.declared.directive.Directive.{Directive}
-use Rattle.export_sig.specs.declared.signature.Signature.{Signature}
-use Rattle.module_names.specs.Places.{IsOnlyYes, IsOnlyAt, soonest}
+use Rattle.module_names.specs.Places.{IsOnlyYes, IsOnlyAt}
 use Rattle.module_terms.specs.declared.term.Routine.{Routine}
 use Rattle.py_lex.specs.Lexed as lexed
 use Rattle.py_lex.specs.declared.token.Tokens.{Tokens}
 use Rattle.py_parse.specs.Parsed as parsed
 use Rattle.py_parse.specs.declared.tree.Module.{Module}
 use Rattle.pythran_main.specs.Layers.{IsOne}
-use Rattle.pythran_main.specs.Reading.{Lexes, Parses, Lists, Tests, Types, Serves, served_by, Answered, IsReading}
+use Rattle.pythran_main.specs.Reading.{Lexes, Parses, Lists, Tests, Answered}
 
 -- ---- each layer has one reading
 

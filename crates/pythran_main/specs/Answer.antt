@@ -1,6 +1,6 @@
 -- What a request comes to, by the files that it loads: the source and what it stands for, the items, the outcome, the
 -- bytes.
-use Rattle.std.specs.Prelude.{◌≡◌, ℕ, ℤ, ◌⊎◌, Bool, List, [], ◌∷◌, map, slice_get}
+use Rattle.std.specs.Prelude.{◌≡◌, ℕ, ℤ, ◌⊎◌, Bool, List, [], map, slice_get}
 use Rattle.std.specs.Prelude.{Option, is_some, Some, None, Result, Ok, Err}
 use Rattle.std.specs.List.{zip}
 use Rattle.krn_base.specs.declared.refusal.Refusal.{Refusal}
@@ -27,6 +27,7 @@ use Rattle.pythran_main.specs.Loads.{Content, Whole, Longer, Gives, Loaded}
 use Rattle.pythran_main.specs.Reading.{IsReading}
 use Rattle.call_words.specs.Request.{Asked}
 use Rattle.pythran_main.specs.Saves.{Save}
+use Rattle.pythran_main.specs.declared.flattening.Flattened.{Flattened}
 
 -- what a command writes on the output, whether that has a fault line, and what it stores
 pub record Product : Type 0 where
@@ -97,30 +98,29 @@ head_of instances number = head_by (slice_get instances number)
 abbrev pub heads_of : Program → List KernelHead
 heads_of program = map (head_of program.instances) program.kernels
 
--- what a command counts of a call: `run` what its loop program counts, and `eager` nothing
+-- what a command counts of a call: `run` what the loop program of the flat form counts, and `eager` nothing
 abbrev pub counts_by : Command → Program → ℕ → List Array → List Bound → Option Counts
-counts_by (command.Run workers) program kernel arrays args =
-    Some (counts_on (plain_program program) kernel arrays args)
-counts_by command.Eager program kernel arrays args = None
+counts_by (command.Run workers) flat kernel arrays args = Some (counts_on (plain_program flat) kernel arrays args)
+counts_by command.Eager flat kernel arrays args = None
 
--- the outcome of eager evaluation, with the command's counts
-abbrev pub run_of : Command → Program → BoundMeaning → Run
-run_of command program b = record {
-  outcome = outcome_on program b.kernel b.arrays b.args;
-  counts = counts_by command program b.kernel b.arrays b.args;
+-- the outcome of eager evaluation of the program with its own calls, with the command's counts
+abbrev pub run_of : Command → Flattened → BoundMeaning → Run
+run_of command found b = record {
+  outcome = outcome_on found.program b.kernel b.arrays b.args;
+  counts = counts_by command found.flat b.kernel b.arrays b.args;
 }
 
-abbrev pub source_of : Command → Program → Source
-source_of command program = record { heads = heads_of program; run = run_of command program }
+abbrev pub source_of : Command → Flattened → Source
+source_of command found = record { heads = heads_of found.program; run = run_of command found }
 
-abbrev pub source_in : Command → Result Program Refusal → Result Source Refusal
-source_in command (Ok program) = Ok (source_of command program)
+abbrev pub source_in : Command → Result Flattened Refusal → Result Source Refusal
+source_in command (Ok found) = Ok (source_of command found)
 source_in command (Err r) = Err r
 
 -- the bytes of a request's source stand for this to it
 abbrev pub IsSource : Asked → List ℕ → Result Source Refusal → Type 0
 IsSource asked file found =
-    (read : Result Program Refusal) × IsReading asked.command file read × (found ≡ source_in asked.command read)
+    (read : Result Flattened Refusal) × IsReading file read × (found ≡ source_in asked.command read)
 
 -- ---- the steps of an answer, each by what is loaded for it
 

@@ -1,12 +1,8 @@
 -- What a call of a program's kernel gives and counts, and what is served so far.
-use Rattle.std.specs.Prelude.{ℕ, List, [], ◌++◌, flat_map, map, length, replicate, slice_get, Option, Some, None}
+use Rattle.std.specs.Prelude.{ℕ, List, [], map, length, replicate, slice_get, Option, Some, None}
 use Rattle.krn_base.specs.declared.place.Loc.{Loc}
 use Rattle.view_places.specs.declared.shape.Array.{Array}
 use Rattle.array_ops.specs.Elements.{Bound, Unbound}
-use Rattle.call_chains.specs.Calls.{own_calls}
-use Rattle.call_chains.specs.declared.graph.OwnCall.{OwnCall}
-use Rattle.call_words.specs.declared.request.Command.{Command}
-use Rattle.call_words.specs.declared.request.Command.TheVariants.{Run, Eager}
 use Rattle.eager_rules.specs.Eager.{block, calls_at, entered}
 use Rattle.eager_rules.specs.Outcome.{ended}
 use Rattle.eager_rules.specs.declared.outcome.Counts.{Counts}
@@ -18,7 +14,6 @@ use Rattle.loop_prog.specs.Serial.{block as loop_block, no_counts, param_regs, t
 use Rattle.loop_prog.specs.State.{State, bind_all}
 use Rattle.loop_prog.specs.declared.program.Kernel.{Kernel}
 use Rattle.loop_prog.specs.declared.program.LoopProgram.{LoopProgram}
-use Rattle.py_parse.specs.declared.tree.Module.{Module}
 
 -- ---- calls
 
@@ -59,17 +54,9 @@ counts_on loops kernel arrays args = counts_in arrays args (slice_get loops.kern
 
 -- ---- the places of what isn't served
 
-abbrev pub call_mark : OwnCall → Option Loc
-call_mark call = Some call.at
-
 abbrev pub directive_mark : Directive → Option Loc
 directive_mark directive = Some directive.loc
 
--- the names at which own functions are called, which `run` doesn't serve while they don't come in line
-abbrev pub unserved_calls : Command → Module → List (Option Loc)
-unserved_calls (Run workers) tree = flat_map (map call_mark) (own_calls tree)
-unserved_calls Eager tree = []
-
--- what a command doesn't serve: for `run` own calls, and for each command directives, by their notes
-abbrev pub unserved : Command → Module → List Directive → List (Option Loc)
-unserved command tree directives = unserved_calls command tree ++ map directive_mark directives
+-- directives, by their notes
+abbrev pub unserved : List Directive → List (Option Loc)
+unserved directives = map directive_mark directives

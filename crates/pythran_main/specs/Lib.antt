@@ -1,6 +1,7 @@
 pub mod Answer
 pub mod Compile
 pub mod Ending
+pub mod Flattening
 pub mod Kernel
 pub mod Layers
 pub mod Loads

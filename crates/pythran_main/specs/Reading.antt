@@ -1,4 +1,5 @@
--- What the bytes of a module are read as by a command: a program, or the refusal of the first layer that refuses them.
+-- What the bytes of a module are read as: a program with its flat form, or the refusal of the first layer that
+-- refuses them. Each command reads a module so.
 use Rattle.std.specs.Prelude.{◌≡◌, ℕ, [], List, map, length, Option, Some, None, Result, Ok, Err}
 use Rattle.krn_base.specs.declared.place.Loc.{Loc}
 use Rattle.krn_base.specs.declared.refusal.Refusal.{Refusal}
@@ -10,7 +11,6 @@ use Rattle.array_types.specs.Modules.{program_of}
 use Rattle.array_types.specs.declared.state.Signature.{Signature as Numbered}
 use Rattle.call_chains.specs.Calls.{own_calls, number_of}
 use Rattle.call_chains.specs.Chains as chains
-use Rattle.call_words.specs.declared.request.Command.{Command}
 use Rattle.eager_rules.specs.declared.program.Program.{Program}
 use Rattle.export_sig.specs.Directives.{AreDirectives, IsDirectiveRefusal}
 use Rattle.export_sig.specs.Exports.{AreExports, IsExportRefusal}
@@ -25,8 +25,10 @@ use Rattle.py_lex.specs.declared.token.Tokens.{Tokens}
 use Rattle.py_parse.specs.Parsed as parsed
 use Rattle.py_parse.specs.declared.tree.Module.{Module}
 use Rattle.use_def.specs.Unassigned as uses
+use Rattle.pythran_main.specs.Flattening.{Flattens}
 use Rattle.pythran_main.specs.Kernel.{unserved}
 use Rattle.pythran_main.specs.Layers.{Then, IsOne}
+use Rattle.pythran_main.specs.declared.flattening.Flattened.{Flattened}
 
 -- the bytes have these tokens, or none
 abbrev pub Lexes : List ℕ → Result Tokens Refusal → Type 0
@@ -92,49 +94,48 @@ Assigned tree signatures =
     Tests Unassigned (uses.IsAccepted tree (map (exported tree) signatures))
     (uses.IsFirst tree (map (exported tree) signatures))
 
--- a program that a command serves, or the first place of what it doesn't
+-- a program that is served, or the first place of what isn't
 abbrev pub served_by : Program → Option Loc → Result Program Refusal
 served_by program None = Ok program
 served_by program (Some at) = Err (record { rule = Profile; loc = at })
 
-abbrev pub Serves : Command → Module → List Directive → Program → Result Program Refusal → Type 0
-Serves command tree directives program found =
-    served_by program (soonest None (unserved command tree directives)) ≡ found
+abbrev pub Serves : List Directive → Program → Result Program Refusal → Type 0
+Serves directives program found = served_by program (soonest None (unserved directives)) ≡ found
 
 -- the layers behind the program, the tests, the directives, the signatures, the tree and the tokens
-abbrev pub IsCoreReading : Command → Module → List Signature → List Directive → Program → Result Program Refusal
-    → Type 0
-IsCoreReading command tree signatures directives program =
-    Then (Assigned tree signatures) (λ _. Serves command tree directives program)
+abbrev pub IsAssignedReading : List Signature → List Directive → Program → Result Flattened Refusal → Type 0
+IsAssignedReading signatures directives program = Then (Serves directives program) (Flattens signatures)
 
-abbrev pub IsTypedReading : Command → Module → List Signature → List Directive → Result Program Refusal → Type 0
-IsTypedReading command tree signatures directives =
-    Then (Types tree signatures directives) (IsCoreReading command tree signatures directives)
+abbrev pub IsCoreReading : Module → List Signature → List Directive → Program → Result Flattened Refusal → Type 0
+IsCoreReading tree signatures directives program =
+    Then (Assigned tree signatures) (λ _. IsAssignedReading signatures directives program)
 
-abbrev pub IsNamedReading : Command → Module → List Signature → List Directive → Result Program Refusal → Type 0
-IsNamedReading command tree signatures directives =
-    Then (Chains tree signatures) (λ _. IsTypedReading command tree signatures directives)
+abbrev pub IsTypedReading : Module → List Signature → List Directive → Result Flattened Refusal → Type 0
+IsTypedReading tree signatures directives =
+    Then (Types tree signatures directives) (IsCoreReading tree signatures directives)
 
-abbrev pub IsFormedReading : Command → Module → List Signature → List Directive → Result Program Refusal → Type 0
-IsFormedReading command tree signatures directives =
-    Then (Names tree) (λ _. IsNamedReading command tree signatures directives)
+abbrev pub IsNamedReading : Module → List Signature → List Directive → Result Flattened Refusal → Type 0
+IsNamedReading tree signatures directives =
+    Then (Chains tree signatures) (λ _. IsTypedReading tree signatures directives)
 
-abbrev pub IsDirectedReading : Command → Module → List Signature → List Directive → Result Program Refusal → Type 0
-IsDirectedReading command tree signatures directives =
-    Then (Forms tree) (λ _. IsFormedReading command tree signatures directives)
+abbrev pub IsFormedReading : Module → List Signature → List Directive → Result Flattened Refusal → Type 0
+IsFormedReading tree signatures directives = Then (Names tree) (λ _. IsNamedReading tree signatures directives)
 
-abbrev pub IsExportedReading : Command → Module → List Signature → Result Program Refusal → Type 0
-IsExportedReading command tree signatures = Then (Directs tree) (IsDirectedReading command tree signatures)
+abbrev pub IsDirectedReading : Module → List Signature → List Directive → Result Flattened Refusal → Type 0
+IsDirectedReading tree signatures directives = Then (Forms tree) (λ _. IsFormedReading tree signatures directives)
 
-abbrev pub IsTreeReading : Command → Module → Result Program Refusal → Type 0
-IsTreeReading command tree = Then (Exports tree) (IsExportedReading command tree)
+abbrev pub IsExportedReading : Module → List Signature → Result Flattened Refusal → Type 0
+IsExportedReading tree signatures = Then (Directs tree) (IsDirectedReading tree signatures)
 
-abbrev pub IsParsedReading : Command → List ℕ → Tokens → Result Program Refusal → Type 0
-IsParsedReading command file tokens = Then (Parses file tokens) (IsTreeReading command)
+abbrev pub IsTreeReading : Module → Result Flattened Refusal → Type 0
+IsTreeReading tree = Then (Exports tree) (IsExportedReading tree)
+
+abbrev pub IsParsedReading : List ℕ → Tokens → Result Flattened Refusal → Type 0
+IsParsedReading file tokens = Then (Parses file tokens) IsTreeReading
 
 -- all layers, in their order
-abbrev pub IsReading : Command → List ℕ → Result Program Refusal → Type 0
-IsReading command file = Then (Lexes file) (IsParsedReading command file)
+abbrev pub IsReading : List ℕ → Result Flattened Refusal → Type 0
+IsReading file = Then (Lexes file) (IsParsedReading file)
 
 -- what a call answers that may want memory
 abbrev pub Answered : {A : Type 0} → (Result A Refusal → Type 0) → Result A Stop → Type 0
@@ -143,5 +144,5 @@ Answered gives (Err (stop.Refused r)) = gives (Err r)
 Answered gives (Err stop.Memory) = Unit {0}
 
 -- the bytes are read so, and in no other way
-abbrev pub IsOneReading : Command → List ℕ → Result Program Refusal → Type 0
-IsOneReading command file = IsOne (IsReading command file)
+abbrev pub IsOneReading : List ℕ → Result Flattened Refusal → Type 0
+IsOneReading file = IsOne (IsReading file)

@@ -4,14 +4,15 @@ ghost use Rattle.call_binding.specs.Binding.{meaning as bound_meaning};
 ghost use Rattle.call_binding.specs.Fitting.{IsSave};
 ghost use Rattle.call_binding.specs.Sound.{IsArray};
 ghost use Rattle.call_report.specs.Report.{report_of};
-ghost use Rattle.eager_rules.specs.Sound.{IsTyped};
 ghost use Rattle.pythran_main.specs.Answer.{product_of, source_of};
 ghost use Rattle.pythran_main.specs.Answer as spec;
+ghost use Rattle.pythran_main.specs.Flattening.{IsKept};
 ghost use Rattle.pythran_main.specs.Loads.{Whole};
 ghost use Rattle.call_words.specs.Request.{meaning};
 ghost use Rattle.pythran_main.specs.Steps.{product, IsCall, Prepares, CallsTo, LeadsTo};
 ghost use Rattle.pythran_main.specs.World.{files_of, AreKept};
 
+use crate::flattening::Flattened;
 use crate::program::{Finished, heads_of, run};
 use crate::reading::read_module;
 use crate::saved_file::{SavedFile, run_files};
@@ -19,7 +20,7 @@ use crate::trouble::Trouble;
 use call_binding::{BoundCall, bind};
 use call_report::{BufferHead, report};
 use call_words::{Command, Request};
-use eager_rules::{Counts, Outcome, Program};
+use eager_rules::{Counts, Outcome};
 use host_io::Files;
 use krn_base::{NoMemory, Seq, Text};
 use std::alloc::{AllocError, Global};
@@ -74,15 +75,15 @@ fn text_of(
 fn run_bound(
     alloc: Global,
     command: Command,
-    program: &Program,
+    found: &Flattened,
     bound: BoundCall,
 ) -> Result<Report, NoMemory>
-    requires typed { IsTyped program.now }
-    requires fits { IsCall program.now bound.kernel bound.call }
+    requires kept { IsKept found.now }
+    requires fits { IsCall found.now.program bound.kernel bound.call }
     requires arrays { All IsArray bound.call.buffers }
     requires saves { All (IsSave bound.call.buffers) bound.saves }
     ensures { IfOk result (λ made. product made ≡
-        product_of (bound_meaning bound) ((source_of command program.now).run (bound_meaning bound))) }
+        product_of (bound_meaning bound) ((source_of command found.now).run (bound_meaning bound))) }
 {
     let BoundCall {
         kernel,
@@ -90,7 +91,7 @@ fn run_bound(
         call,
         saves,
     } = bound;
-    let Finished { outcome, counts } = run(alloc, command, program, kernel, &call)?;
+    let Finished { outcome, counts } = run(alloc, command, found, kernel, &call)?;
     let text = text_of(
         alloc,
         names.as_slice(),
@@ -106,21 +107,21 @@ fn run_bound(
     })
 }
 
-/// What a request of this program comes to. Kernels are numbered within 31 bits.
+/// What a request of this program with its flat form comes to. Kernels are numbered within 31 bits.
 fn answer_program<F: Files>(
     alloc: Global,
-    program: Program,
+    found: Flattened,
     request: &Request<'_>,
     files: &mut F,
 ) -> Result<Report, Trouble>
-    requires typed { IsTyped program }
+    requires kept { IsKept found }
     requires items { length request.now.items.items < 2 ^ 31 }
     ensures count { F.faults files.old ≤ F.faults files.new }
     ensures kept { AreKept (files_of F.Files files.old files.new) }
-    ensures prepared { Prepares (CallsTo (meaning request.now) (source_of request.now.command program))
+    ensures prepared { Prepares (CallsTo (meaning request.now) (source_of request.now.command found))
         (files_of F.Files files.old files.new) result }
 {
-    let heads = heads_of(alloc, &program)?;
+    let heads = heads_of(alloc, &found.program)?;
     if heads.len() >= 1 << 31 {
         return Err(Trouble::Memory);
     }
@@ -131,7 +132,7 @@ fn answer_program<F: Files>(
         request.items.as_slice(),
         files,
     ) {
-        Ok(bound) => Ok(run_bound(alloc, request.command, &program, bound)?),
+        Ok(bound) => Ok(run_bound(alloc, request.command, &found, bound)?),
         Err(stop) => Err(Trouble::from(stop)),
     }
 }
@@ -152,8 +153,8 @@ pub fn answer_request<F: Files>(
     if request.items.len() >= 1 << 31 {
         return Err(Trouble::Memory);
     }
-    match read_module(alloc, request.command, file)? {
-        Ok(program) => answer_program(alloc, program, request, files),
+    match read_module(alloc, file)? {
+        Ok(found) => answer_program(alloc, found, request, files),
         Err(refusal) => Err(Trouble::Refused(refusal)),
     }
 }

@@ -40,7 +40,7 @@ fn texts_are_compiled(rt: HostRuntime) -> Result<(), Fail> {
     let alloc = rt.alloc();
     assert_eq!(rt; kernels_of(alloc, TWO), Ok(2));
     assert_eq!(rt; kernels_of(alloc, ""), Ok(0));
-    assert_eq!(rt; kernels_of(alloc, OWN), refused(Rule::Profile, 3, 12));
+    assert_eq!(rt; kernels_of(alloc, OWN), Ok(1));
     assert_eq!(rt; kernels_of(alloc, CUT), refused(Rule::Syntax, 3, 15));
     assert_eq!(rt;
         kernels_of(alloc, UNASSIGNED),

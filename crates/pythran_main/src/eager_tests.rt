@@ -40,7 +40,8 @@ pub const BIG: &str = "import numpy as np\n#pythran export big(int)\ndef big(n):
 const DOT: &str = "#pythran export dot(int[], int[])\ndef dot(a, b):\n    s = 0\n    \
     #omp parallel for reduction(+:s)\n    for i in range(len(a)):\n        s += a[i] * b[i]\n    return s\n";
 
-const STATS: &str =
+/// A call of an own function in an expression.
+pub const STATS: &str =
     "import numpy as np\n#pythran export stats(int[])\ndef sq(x):\n    return x * x\n\
     def stats(a):\n    return np.sum(sq(a)), a.max()\n";
 
@@ -257,7 +258,7 @@ static SCALARS: [Call; 8] = [
     (PICK, "eager m.py pick a=3 a=4 b=1", 4, "", "error item 2\n"),
 ];
 
-static REFUSED: [Call; 9] = [
+static REFUSED: [Call; 8] = [
     (
         DOT,
         "eager m.py dot buf:A=1 a=@A b=@A",
@@ -271,13 +272,6 @@ static REFUSED: [Call; 9] = [
         3,
         "",
         "refused Profile 4:5\n",
-    ),
-    (
-        STATS,
-        "run m.py stats buf:A=1 a=@A",
-        3,
-        "",
-        "refused Profile 6:19\n",
     ),
     (
         RETYPE,

@@ -17,6 +17,9 @@ mod deliver;
 mod eager_tests;
 #[cfg(test)]
 mod file_tests;
+#[cfg(test)]
+mod flat_tests;
+mod flattening;
 mod load;
 #[cfg(test)]
 mod loop_tests;

@@ -1,13 +1,15 @@
 ghost use Rattle.std.specs.Prelude.{◌≡◌, IfOk, None, Some, map};
-ghost use Rattle.eager_rules.specs.Sound.{IsTyped};
+ghost use Rattle.eager_rules.specs.Sound.{IsSound, IsTyped};
 ghost use Rattle.eager_rules.specs.State.{bound_to};
 ghost use Rattle.lazy_expr.specs.Promise.{ProgramKeepsOutcomes};
 ghost use Rattle.lazy_expr.specs.Promise.{plain_program as plain_program_of};
 ghost use Rattle.loop_prog.specs.Check.{flaw_of};
 ghost use Rattle.pythran_main.specs.Answer as answer;
+ghost use Rattle.pythran_main.specs.Flattening.{IsKept};
 ghost use Rattle.pythran_main.specs.Kernel as spec;
 ghost use Rattle.pythran_main.specs.Steps.{IsCall, KeepsBuffers};
 
+use crate::flattening::Flattened;
 use call_binding::KernelHead;
 use call_words::Command;
 use eager_rules::{
@@ -15,7 +17,7 @@ use eager_rules::{
     typed_runs_keep_types,
 };
 use krn_base::{NoMemory, ParamType, Seq, Text};
-use lazy_expr::{has_flat_kernels, plain_program};
+use lazy_expr::plain_program;
 use loop_exec::run_program;
 use omp_loops::{ValidProgram, validate};
 use std::alloc::{AllocError, Global};
@@ -91,22 +93,20 @@ fn evaluate(
     })
 }
 
-/// The loop program of a module, in which each kernel has the outcome of eager evaluation. Want of memory too where the
-/// program has a call, reads what it may not have bound or doesn't meet the loop program's conditions: no module that
-/// is served has such a program, but this isn't proved.
-pub fn loops_of(alloc: Global, program: &Program) -> Result<ValidProgram, NoMemory>
-    requires typed { IsTyped program.now }
-    ensures form { IfOk result (λ loops. loops ≡ plain_program_of program.now) }
+/// The loop program of a module: of its flat form, in which each kernel has the outcome of eager evaluation of the
+/// program. Want of memory too where the program reads what it may not have bound or the flat form doesn't meet the
+/// loop program's conditions: no module that is served has such a program, but this isn't proved.
+pub fn loops_of(alloc: Global, found: &Flattened) -> Result<ValidProgram, NoMemory>
+    requires kept { IsKept found.now }
+    ensures form { IfOk result (λ loops. loops ≡ plain_program_of found.now.flat) }
     ensures checked { IfOk result (λ loops. flaw_of loops ≡ None) }
-    ensures outcomes { IfOk result (λ loops. ProgramKeepsOutcomes program.now loops) }
+    ensures outcomes { IfOk result (λ loops. ProgramKeepsOutcomes found.now.program loops) }
+    ensures sound { IfOk result (λ loops. IsSound found.now.program) }
 {
-    if !all_assigned(alloc, program)? {
+    if !all_assigned(alloc, &found.program)? {
         return Err(NoMemory);
     }
-    if !has_flat_kernels(program) {
-        return Err(NoMemory);
-    }
-    let loops = plain_program(alloc, program)?;
+    let loops = plain_program(alloc, &found.flat)?;
     match validate(alloc, loops) {
         Ok(valid) => Ok(valid),
         Err(_stop) => Err(NoMemory),
@@ -116,20 +116,20 @@ pub fn loops_of(alloc: Global, program: &Program) -> Result<ValidProgram, NoMemo
 /// What the loop program of a kernel gives, and what it counts.
 fn run_loops(
     alloc: Global,
-    program: &Program,
+    found: &Flattened,
     kernel: u32,
     call: &Call,
 ) -> Result<Finished, NoMemory>
-    requires typed { IsTyped program.now }
-    requires fits { IsCall program.now kernel call.now }
+    requires kept { IsKept found.now }
+    requires fits { IsCall found.now.program kernel call.now }
     ensures kept { IfOk result (λ done. KeepsBuffers call.now.buffers done.outcome.buffers) }
     ensures outcome { IfOk result (λ done. done.outcome ≡
-        spec.outcome_on program.now kernel call.now.buffers (map bound_to call.now.args)) }
+        spec.outcome_on found.now.program kernel call.now.buffers (map bound_to call.now.args)) }
     ensures counts { IfOk result (λ done. done.counts ≡
-        Some (spec.counts_on (plain_program_of program.now) kernel call.now.buffers (map bound_to call.now.args))) }
+        Some (spec.counts_on (plain_program_of found.now.flat) kernel call.now.buffers (map bound_to call.now.args))) }
 {
-    typed_runs_keep_types(program);
-    let loops = loops_of(alloc, program)?;
+    typed_runs_keep_types(&found.program);
+    let loops = loops_of(alloc, found)?;
     let ran = run_program(alloc, &loops, kernel, call)?;
     Ok(Finished {
         outcome: ran.outcome,
@@ -141,20 +141,20 @@ fn run_loops(
 pub fn run(
     alloc: Global,
     command: Command,
-    program: &Program,
+    found: &Flattened,
     kernel: u32,
     call: &Call,
 ) -> Result<Finished, NoMemory>
-    requires typed { IsTyped program.now }
-    requires fits { IsCall program.now kernel call.now }
+    requires kept { IsKept found.now }
+    requires fits { IsCall found.now.program kernel call.now }
     ensures kept { IfOk result (λ done. KeepsBuffers call.now.buffers done.outcome.buffers) }
     ensures outcome { IfOk result (λ done. done.outcome ≡
-        spec.outcome_on program.now kernel call.now.buffers (map bound_to call.now.args)) }
+        spec.outcome_on found.now.program kernel call.now.buffers (map bound_to call.now.args)) }
     ensures counts { IfOk result (λ done. done.counts ≡
-        answer.counts_by command program.now kernel call.now.buffers (map bound_to call.now.args)) }
+        answer.counts_by command found.now.flat kernel call.now.buffers (map bound_to call.now.args)) }
 {
     match command {
-        Command::Run { .. } => run_loops(alloc, program, kernel, call),
-        Command::Eager => evaluate(alloc, program, kernel, call),
+        Command::Run { .. } => run_loops(alloc, found, kernel, call),
+        Command::Eager => evaluate(alloc, &found.program, kernel, call),
     }
 }

@@ -2,13 +2,14 @@ ghost use Rattle.std.specs.Prelude.{◌≡◌, ◌^◌, ◌≤◌, ◌<◌, leng
 ghost use Rattle.call_chains.specs.Calls.{number_of as number_in};
 ghost use Rattle.eager_rules.specs.Sound.{IsTyped};
 ghost use Rattle.py_lex.specs.Lexed.{IsLexed};
+ghost use Rattle.pythran_main.specs.Flattening.{Flattens, IsKept};
 ghost use Rattle.pythran_main.specs.Layers.{IsOne};
 ghost use Rattle.pythran_main.specs.Reading as reading;
 
+use crate::flattening::{Flattened, with_flat_form};
 use crate::served::first_unserved;
 use array_types::{Signature as NumberedSignature, typed_terms};
 use call_chains::recursion;
-use call_words::Command;
 use eager_rules::Program;
 use export_sig::{Directive, Signature, directives, exports};
 use krn_base::{Loc, NoMemory, Refusal, Rule, Seq, Stop};
@@ -75,25 +76,18 @@ fn numbered_all(
     Ok(found)
 }
 
-/// A program that a command serves, or the refusal at the first place of what it doesn't.
-fn serve(
-    alloc: Global,
-    command: Command,
-    tree: &Module,
-    directives: &[Directive],
-    program: Program,
-) -> Result<Result<Program, Refusal>, NoMemory>
+/// A program that is served, or the first place of what isn't.
+fn serve(directives: &[Directive], program: Program) -> Result<Program, Refusal>
     requires typed { IsTyped program }
-    ensures one { IfOk result (IsOne (reading.Serves command tree.now directives.now program)) }
-    ensures typed { IfOk result (λ read. IfOk read IsTyped) }
+    ensures one { IsOne (reading.Serves directives.now program) result }
+    ensures typed { IfOk result IsTyped }
 {
-    let first = first_unserved(alloc, command, tree, directives)?;
-    match first {
-        None => Ok(Ok(program)),
-        Some(loc) => Ok(Err(Refusal {
+    match first_unserved(directives) {
+        None => Ok(program),
+        Some(loc) => Err(Refusal {
             rule: Rule::Profile,
             loc,
-        })),
+        }),
     }
 }
 
@@ -119,21 +113,54 @@ fn test_assigned(alloc: Global, tree: &Module, signatures: &[Signature]) -> Resu
     assigned(alloc, tree, numbers.as_slice())
 }
 
+/// The layers behind the test of directives: the limits of the flat kernels, and the flat form.
+fn read_limits(
+    alloc: Global,
+    signatures: &[Signature],
+    program: Program,
+) -> Result<Result<Flattened, Refusal>, NoMemory>
+    requires typed { IsTyped program }
+    ensures one { IfOk result (IsOne (Flattens signatures.now program)) }
+    ensures kept { IfOk result (λ read. IfOk read IsKept) }
+{
+    match with_flat_form(alloc, program, signatures) {
+        Ok(found) => Ok(Ok(found)),
+        Err(Stop::Refused(refused)) => Ok(Err(refused)),
+        Err(Stop::Memory) => Err(NoMemory),
+    }
+}
+
+/// The layers behind the rule on unassigned names.
+fn read_served(
+    alloc: Global,
+    signatures: &[Signature],
+    directives: &[Directive],
+    program: Program,
+) -> Result<Result<Flattened, Refusal>, NoMemory>
+    requires typed { IsTyped program }
+    ensures one { IfOk result (IsOne (reading.IsAssignedReading signatures.now directives.now program)) }
+    ensures kept { IfOk result (λ read. IfOk read IsKept) }
+{
+    match serve(directives, program) {
+        Ok(served) => read_limits(alloc, signatures, served),
+        Err(refused) => Ok(Err(refused)),
+    }
+}
+
 /// What a tree is read as that has a program.
 fn read_assigned(
     alloc: Global,
-    command: Command,
     tree: &Module,
     signatures: &[Signature],
     directives: &[Directive],
     program: Program,
-) -> Result<Result<Program, Refusal>, NoMemory>
+) -> Result<Result<Flattened, Refusal>, NoMemory>
     requires typed { IsTyped program }
-    ensures one { IfOk result (IsOne (reading.IsCoreReading command tree.now signatures.now directives.now program)) }
-    ensures typed { IfOk result (λ read. IfOk read IsTyped) }
+    ensures one { IfOk result (IsOne (reading.IsCoreReading tree.now signatures.now directives.now program)) }
+    ensures kept { IfOk result (λ read. IfOk read IsKept) }
 {
     match test_assigned(alloc, tree, signatures) {
-        Ok(()) => serve(alloc, command, tree, directives, program),
+        Ok(()) => read_served(alloc, signatures, directives, program),
         Err(Stop::Refused(refused)) => Ok(Err(refused)),
         Err(Stop::Memory) => Err(NoMemory),
     }
@@ -142,16 +169,15 @@ fn read_assigned(
 /// What a tree is read as that the rules before the walk accept.
 fn read_types(
     alloc: Global,
-    command: Command,
     tree: &Module,
     signatures: &[Signature],
     directives: &[Directive],
-) -> Result<Result<Program, Refusal>, NoMemory>
-    ensures one { IfOk result (IsOne (reading.IsTypedReading command tree.now signatures.now directives.now)) }
-    ensures typed { IfOk result (λ read. IfOk read IsTyped) }
+) -> Result<Result<Flattened, Refusal>, NoMemory>
+    ensures one { IfOk result (IsOne (reading.IsTypedReading tree.now signatures.now directives.now)) }
+    ensures kept { IfOk result (λ read. IfOk read IsKept) }
 {
     match typed_tree(alloc, tree, signatures, directives) {
-        Ok(program) => read_assigned(alloc, command, tree, signatures, directives, program),
+        Ok(program) => read_assigned(alloc, tree, signatures, directives, program),
         Err(Stop::Refused(refused)) => Ok(Err(refused)),
         Err(Stop::Memory) => Err(NoMemory),
     }
@@ -182,16 +208,15 @@ fn test_names(alloc: Global, tree: &Module) -> Result<(), Stop>
 /// What a tree is read as whose names are well.
 fn read_chains(
     alloc: Global,
-    command: Command,
     tree: &Module,
     signatures: &[Signature],
     directives: &[Directive],
-) -> Result<Result<Program, Refusal>, NoMemory>
-    ensures one { IfOk result (IsOne (reading.IsNamedReading command tree.now signatures.now directives.now)) }
-    ensures typed { IfOk result (λ read. IfOk read IsTyped) }
+) -> Result<Result<Flattened, Refusal>, NoMemory>
+    ensures one { IfOk result (IsOne (reading.IsNamedReading tree.now signatures.now directives.now)) }
+    ensures kept { IfOk result (λ read. IfOk read IsKept) }
 {
     match test_chains(alloc, tree, signatures) {
-        Ok(()) => read_types(alloc, command, tree, signatures, directives),
+        Ok(()) => read_types(alloc, tree, signatures, directives),
         Err(Stop::Refused(refused)) => Ok(Err(refused)),
         Err(Stop::Memory) => Err(NoMemory),
     }
@@ -200,16 +225,15 @@ fn read_chains(
 /// What a tree is read as whose forms are well.
 fn read_names(
     alloc: Global,
-    command: Command,
     tree: &Module,
     signatures: &[Signature],
     directives: &[Directive],
-) -> Result<Result<Program, Refusal>, NoMemory>
-    ensures one { IfOk result (IsOne (reading.IsFormedReading command tree.now signatures.now directives.now)) }
-    ensures typed { IfOk result (λ read. IfOk read IsTyped) }
+) -> Result<Result<Flattened, Refusal>, NoMemory>
+    ensures one { IfOk result (IsOne (reading.IsFormedReading tree.now signatures.now directives.now)) }
+    ensures kept { IfOk result (λ read. IfOk read IsKept) }
 {
     match test_names(alloc, tree) {
-        Ok(()) => read_chains(alloc, command, tree, signatures, directives),
+        Ok(()) => read_chains(alloc, tree, signatures, directives),
         Err(Stop::Refused(refused)) => Ok(Err(refused)),
         Err(Stop::Memory) => Err(NoMemory),
     }
@@ -218,16 +242,15 @@ fn read_names(
 /// What a tree is read as whose notes are well.
 fn read_forms(
     alloc: Global,
-    command: Command,
     tree: &Module,
     signatures: &[Signature],
     directives: &[Directive],
-) -> Result<Result<Program, Refusal>, NoMemory>
-    ensures one { IfOk result (IsOne (reading.IsDirectedReading command tree.now signatures.now directives.now)) }
-    ensures typed { IfOk result (λ read. IfOk read IsTyped) }
+) -> Result<Result<Flattened, Refusal>, NoMemory>
+    ensures one { IfOk result (IsOne (reading.IsDirectedReading tree.now signatures.now directives.now)) }
+    ensures kept { IfOk result (λ read. IfOk read IsKept) }
 {
     match test_forms(alloc, tree) {
-        Ok(()) => read_names(alloc, command, tree, signatures, directives),
+        Ok(()) => read_names(alloc, tree, signatures, directives),
         Err(Stop::Refused(refused)) => Ok(Err(refused)),
         Err(Stop::Memory) => Err(NoMemory),
     }
@@ -236,31 +259,26 @@ fn read_forms(
 /// What a tree is read as whose export notes are well.
 fn read_directives(
     alloc: Global,
-    command: Command,
     tree: &Module,
     signatures: &[Signature],
-) -> Result<Result<Program, Refusal>, NoMemory>
-    ensures one { IfOk result (IsOne (reading.IsExportedReading command tree.now signatures.now)) }
-    ensures typed { IfOk result (λ read. IfOk read IsTyped) }
+) -> Result<Result<Flattened, Refusal>, NoMemory>
+    ensures one { IfOk result (IsOne (reading.IsExportedReading tree.now signatures.now)) }
+    ensures kept { IfOk result (λ read. IfOk read IsKept) }
 {
     match directives(alloc, tree) {
-        Ok(found) => read_forms(alloc, command, tree, signatures, found.as_slice()),
+        Ok(found) => read_forms(alloc, tree, signatures, found.as_slice()),
         Err(Stop::Refused(refused)) => Ok(Err(refused)),
         Err(Stop::Memory) => Err(NoMemory),
     }
 }
 
 /// What a tree is read as.
-fn read_tree(
-    alloc: Global,
-    command: Command,
-    tree: &Module,
-) -> Result<Result<Program, Refusal>, NoMemory>
-    ensures one { IfOk result (IsOne (reading.IsTreeReading command tree.now)) }
-    ensures typed { IfOk result (λ read. IfOk read IsTyped) }
+fn read_tree(alloc: Global, tree: &Module) -> Result<Result<Flattened, Refusal>, NoMemory>
+    ensures one { IfOk result (IsOne (reading.IsTreeReading tree.now)) }
+    ensures kept { IfOk result (λ read. IfOk read IsKept) }
 {
     match exports(alloc, tree) {
-        Ok(signatures) => read_directives(alloc, command, tree, signatures.as_slice()),
+        Ok(signatures) => read_directives(alloc, tree, signatures.as_slice()),
         Err(Stop::Refused(export)) => Ok(Err(export)),
         Err(Stop::Memory) => Err(NoMemory),
     }
@@ -269,35 +287,30 @@ fn read_tree(
 /// What the tokens of a text are read as.
 fn read_tokens(
     alloc: Global,
-    command: Command,
     text: &[u8],
     tokens: &Tokens,
-) -> Result<Result<Program, Refusal>, NoMemory>
+) -> Result<Result<Flattened, Refusal>, NoMemory>
     requires { IsLexed text.now tokens.now }
-    ensures one { IfOk result (IsOne (reading.IsParsedReading command text.now tokens.now)) }
-    ensures typed { IfOk result (λ read. IfOk read IsTyped) }
+    ensures one { IfOk result (IsOne (reading.IsParsedReading text.now tokens.now)) }
+    ensures kept { IfOk result (λ read. IfOk read IsKept) }
 {
     match parse(alloc, text, tokens) {
-        Ok(tree) => read_tree(alloc, command, &tree),
+        Ok(tree) => read_tree(alloc, &tree),
         Err(Stop::Refused(syntax)) => Ok(Err(syntax)),
         Err(Stop::Memory) => Err(NoMemory),
     }
 }
 
-/// The program of the module that the text is, or the refusal of the first rule that refuses it: `Lex`, `Syntax`,
-/// `Export`, `Directive`, `Profile`, `Name`, `Recursion`, then `Type` and `Retype` by one walk, `Unassigned`, and
-/// `Profile` again at the first own call or directive that the command doesn't serve.
-pub fn read_module(
-    alloc: Global,
-    command: Command,
-    text: &[u8],
-) -> Result<Result<Program, Refusal>, NoMemory>
+/// The program of the module that the text is, with its flat form, or the refusal of the first rule that refuses it:
+/// `Lex`, `Syntax`, `Export`, `Directive`, `Profile`, `Name`, `Recursion`, then `Type` and `Retype` by one walk,
+/// `Unassigned`, `TooLarge`, `TooDeep`, and `Profile` again at the first directive, since none is served yet.
+pub fn read_module(alloc: Global, text: &[u8]) -> Result<Result<Flattened, Refusal>, NoMemory>
     requires { length text.now ≤ 2 ^ 31 }
-    ensures one { IfOk result (reading.IsOneReading command text.now) }
-    ensures typed { IfOk result (λ read. IfOk read IsTyped) }
+    ensures one { IfOk result (reading.IsOneReading text.now) }
+    ensures kept { IfOk result (λ read. IfOk read IsKept) }
 {
     match tokens(alloc, text) {
-        Ok(tokens) => read_tokens(alloc, command, text, &tokens),
+        Ok(tokens) => read_tokens(alloc, text, &tokens),
         Err(Stop::Refused(lexical)) => Ok(Err(lexical)),
         Err(Stop::Memory) => Err(NoMemory),
     }

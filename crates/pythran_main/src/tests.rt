@@ -167,7 +167,7 @@ const OMP: &str = "#omp parallel for\n";
 
 /// What stands before the note of a module, its `def` and its returned value: comments, blank lines, texts between, and
 /// other layouts of the same tree.
-static READINGS: [(&str, &str, &str); 8] = [
+static READINGS: [(&str, &str, &str); 11] = [
     ("# a sum\n\n", "def add(a, b):  # of rows\n", "a + b"),
     ("'a text'\n", HEAD, "a+b"),
     ("", "def add(\n  a, b,):", "a + b,"),
@@ -176,6 +176,14 @@ static READINGS: [(&str, &str, &str); 8] = [
     ("import numpy\n", HEAD, "a + b"),
     ("def f():\n    pass\n", HEAD, "a + b"),
     ("", "def add(a, b):\n    c = a + b\n    pass", "c"),
+    // own calls, and one that no export reaches
+    ("def f(x): return x\n", HEAD, "f(a) + b"),
+    (
+        "def f(x):\n    return g(x)\ndef g(x):\n    return x\n",
+        HEAD,
+        "f(a) + g(b)",
+    ),
+    ("def f(x): return f(x)\n", HEAD, "a + b"),
 ];
 
 /// The same of modules that are refused, with what is told of them.
@@ -226,20 +234,8 @@ static MODULES_3: [(&str, &str, &str, &str); 9] = [
     ),
 ];
 
-static MODULES_4: [(&str, &str, &str, &str); 6] = [
+static MODULES_4: [(&str, &str, &str, &str); 3] = [
     // what isn't served
-    (
-        "def f(x): return x\n",
-        HEAD,
-        "f(a) + b",
-        "refused Profile 4:12\n",
-    ),
-    (
-        "def f(x): return f(x)\n",
-        HEAD,
-        "a + b",
-        "refused Profile 1:18\n",
-    ),
     (
         "def f(x):\n    # omp parallel for\n    for i in range(3): pass\n",
         HEAD,
@@ -256,13 +252,7 @@ static MODULES_4: [(&str, &str, &str, &str); 6] = [
         "def f(x):\n    return x\ndef g(x):\n    f(x)\n    # omp parallel for\n    for i in range(3): pass\n",
         HEAD,
         "a + b",
-        "refused Profile 4:5\n",
-    ),
-    (
-        "def f(x):\n    return g(x)\ndef g(x):\n    return x\n",
-        HEAD,
-        "f(a), g(b)",
-        "refused Profile 2:12\n",
+        "refused Profile 5:5\n",
     ),
 ];
 
@@ -378,6 +368,22 @@ fn call<R: Threads + Sync>(
     Ok((status, out, err))
 }
 
+/// A call ends with this status, output and error output.
+pub fn call_one<R: Threads + Sync + Abort>(
+    rt: &R,
+    alloc: Global,
+    module: &str,
+    line: &str,
+    wanted: (u8, &str, &str),
+) -> Result<(), Fail> {
+    let words = make_words(alloc, line)?;
+    let (status, out, err) = call(rt, alloc, module.as_bytes(), words.as_slice(), FINE)?;
+    assert_eq!(rt; status, wanted.0, "{line}");
+    assert_eq!(rt; out.written(), wanted.1.as_bytes(), "{line}");
+    assert_eq!(rt; err.written(), wanted.2.as_bytes(), "{line}");
+    Ok(())
+}
+
 /// Each call ends as its row says.
 pub fn call_all<R: Threads + Sync + Abort>(
     rt: &R,
@@ -385,11 +391,7 @@ pub fn call_all<R: Threads + Sync + Abort>(
     rows: &[Call],
 ) -> Result<(), Fail> {
     for (module, line, status, text, told) in rows {
-        let words = make_words(alloc, *line)?;
-        let (ended, out, err) = call(rt, alloc, module.as_bytes(), words.as_slice(), FINE)?;
-        assert_eq!(rt; ended, *status, "{line}");
-        assert_eq!(rt; out.written(), text.as_bytes(), "{line}");
-        assert_eq!(rt; err.written(), told.as_bytes(), "{line}");
+        call_one(rt, alloc, *module, *line, (*status, *text, *told))?;
     }
     Ok(())
 }

@@ -17,7 +17,7 @@ returns c =
     let counts : Option Counts = c.in_ok-outcome.field-0.counts in
     let made : Run = record { outcome = o; counts = counts } in
     let b : BoundMeaning = bound_meaning c.args.bound in
-    let r : Run = run_of c.args.command c.args.program.now b in
+    let r : Run = run_of c.args.command c.args.found.now b in
     let files : List Save = map save_of c.in_ok-run_files.field-0 in
     let names_are : c.as_slice.result.now ≡ b.names = c.as_slice.ensures in
     let arrays_are : c.as_slice-2.result.now ≡ b.arrays = c.as_slice-2.ensures in

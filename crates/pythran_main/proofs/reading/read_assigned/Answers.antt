@@ -1,7 +1,7 @@
 use Rattle.std.proofs.Common.{sym, subst, Err}
 use Rattle.krn_base.specs.declared.refusal.Refusal.{Refusal}
 use Rattle.pythran_main.specs.Layers.{IsOne}
-use Rattle.pythran_main.specs.Reading.{Assigned, Serves, IsCoreReading}
+use Rattle.pythran_main.specs.Reading.{Assigned, IsAssignedReading, IsCoreReading}
 use Rattle.pythran_main.proofs.Layers.{if_one, refused_one}
 use Rattle.pythran_main.proofs.reading.read_assigned.Goals as goal
 
@@ -10,17 +10,17 @@ returns-in-Ok-clause-one c =
     let tree = c.args.tree.now in
     let signatures = c.args.signatures.now in
     let directives = c.args.directives.now in
-    let last = Serves c.args.command tree directives c.args.program in
-    if_one (Assigned tree signatures) (λ _. last) tt c.serve.result
-    c.in-Ok.ensures c.serve.ensures.one
+    let last = IsAssignedReading signatures directives c.args.program in
+    if_one (Assigned tree signatures) (λ _. last) tt c.read_served.result
+    c.in-Ok.ensures c.read_served.ensures.one
 
 pub returns-in-Err-Refused-clause-one : goal.returns-in-Err-Refused-clause-one
 returns-in-Err-Refused-clause-one c =
     let tree = c.args.tree.now in
     let signatures = c.args.signatures.now in
     let directives = c.args.directives.now in
-    let last = Serves c.args.command tree directives c.args.program in
-    let P : Refusal → Type 0 = λ r. IsOne (IsCoreReading c.args.command tree signatures directives c.args.program)
+    let last = IsAssignedReading signatures directives c.args.program in
+    let P : Refusal → Type 0 = λ r. IsOne (IsCoreReading tree signatures directives c.args.program)
     (Err r) in
     subst P (sym c.in-Err-Refused.refused-is)
     (refused_one (Assigned tree signatures) (λ _. last) c.in-Err-Refused.field-0

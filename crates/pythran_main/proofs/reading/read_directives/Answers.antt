@@ -12,21 +12,19 @@ pub returns-in-Ok-clause-one : goal.returns-in-Ok-clause-one
 returns-in-Ok-clause-one c =
     let e = c.in-Ok.ensures in
     let tree = c.args.tree.now in
-    let command = c.args.command in
     let signatures = c.args.signatures.now in
-    if_one (Directs tree) (IsDirectedReading command tree signatures) c.in-Ok.found c.read_forms.result
+    if_one (Directs tree) (IsDirectedReading tree signatures) c.in-Ok.found c.read_forms.result
     (listed_as (AreDirectives tree) (IsDirectiveRefusal tree) c.in-Ok.found e.directives e.only e.place)
-    (subst (λ (ds : List Directive). IfOk c.read_forms.result (IsOne (IsDirectedReading command tree signatures ds)))
+    (subst (λ (ds : List Directive). IfOk c.read_forms.result (IsOne (IsDirectedReading tree signatures ds)))
     c.as_slice.ensures c.read_forms.ensures.one)
 
 pub returns-in-Err-Refused-clause-one : goal.returns-in-Err-Refused-clause-one
 returns-in-Err-Refused-clause-one c =
     let e = c.in-Err-Refused.ensures in
     let tree = c.args.tree.now in
-    let command = c.args.command in
     let signatures = c.args.signatures.now in
-    let P : Refusal → Type 0 = λ r. IsOne (IsExportedReading command tree signatures) (Err r) in
+    let P : Refusal → Type 0 = λ r. IsOne (IsExportedReading tree signatures) (Err r) in
     subst P (sym c.in-Err-Refused.refused-is)
-    (then_none (Directs tree) (IsDirectedReading command tree signatures) c.in-Err-Refused.refused
+    (then_none (Directs tree) (IsDirectedReading tree signatures) c.in-Err-Refused.refused
     (not_listed_at (AreDirectives tree) (IsDirectiveRefusal tree) c.in-Err-Refused.field-0 c.in-Err-Refused.refused
     c.in-Err-Refused.field-0-is e.refused e.only e.place))

@@ -10,7 +10,7 @@ returns-in-Ok-clause-one c =
     let tree = c.args.tree.now in
     let signatures = c.args.signatures.now in
     let directives = c.args.directives.now in
-    let next = IsFormedReading c.args.command tree signatures directives in
+    let next = IsFormedReading tree signatures directives in
     if_one (Forms tree) (λ _. next) tt c.read_names.result c.in-Ok.ensures
     c.read_names.ensures.one
 
@@ -19,8 +19,8 @@ returns-in-Err-Refused-clause-one c =
     let tree = c.args.tree.now in
     let signatures = c.args.signatures.now in
     let directives = c.args.directives.now in
-    let next = IsFormedReading c.args.command tree signatures directives in
-    let P : Refusal → Type 0 = λ r. IsOne (IsDirectedReading c.args.command tree signatures directives) (Err r) in
+    let next = IsFormedReading tree signatures directives in
+    let P : Refusal → Type 0 = λ r. IsOne (IsDirectedReading tree signatures directives) (Err r) in
     subst P (sym c.in-Err-Refused.refused-is)
     (refused_one (Forms tree) (λ _. next) c.in-Err-Refused.field-0
     c.in-Err-Refused.refused c.in-Err-Refused.field-0-is c.in-Err-Refused.ensures)

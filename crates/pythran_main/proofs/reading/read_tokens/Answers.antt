@@ -9,14 +9,14 @@ use Rattle.pythran_main.proofs.reading.read_tokens.Goals as goal
 pub returns-in-Ok-clause-one : goal.returns-in-Ok-clause-one
 returns-in-Ok-clause-one c =
     let e = c.in-Ok.ensures in
-    if_one (Parses c.args.text.now c.args.tokens.now) (IsTreeReading c.args.command) c.in-Ok.tree c.read_tree.result
+    if_one (Parses c.args.text.now c.args.tokens.now) (IsTreeReading) c.in-Ok.tree c.read_tree.result
     (parsed_as c.args.text.now c.args.tokens.now c.in-Ok.tree e.tree e.only e.place) c.read_tree.ensures.one
 
 pub returns-in-Err-Refused-clause-one : goal.returns-in-Err-Refused-clause-one
 returns-in-Err-Refused-clause-one c =
     let e = c.in-Err-Refused.ensures in
-    let P : Refusal → Type 0 = λ r. IsOne (IsParsedReading c.args.command c.args.text.now c.args.tokens.now) (Err r) in
+    let P : Refusal → Type 0 = λ r. IsOne (IsParsedReading c.args.text.now c.args.tokens.now) (Err r) in
     subst P (sym c.in-Err-Refused.syntax-is)
-    (then_none (Parses c.args.text.now c.args.tokens.now) (IsTreeReading c.args.command) c.in-Err-Refused.syntax
+    (then_none (Parses c.args.text.now c.args.tokens.now) (IsTreeReading) c.in-Err-Refused.syntax
     (not_parsed_at c.args.text.now c.args.tokens.now c.in-Err-Refused.field-0 c.in-Err-Refused.syntax
     c.in-Err-Refused.field-0-is e.refused e.only e.place))

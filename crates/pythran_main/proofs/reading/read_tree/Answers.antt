@@ -12,17 +12,17 @@ pub returns-in-Ok-clause-one : goal.returns-in-Ok-clause-one
 returns-in-Ok-clause-one c =
     let e = c.in-Ok.ensures in
     let tree = c.args.tree.now in
-    if_one (Exports tree) (IsExportedReading c.args.command tree) c.in-Ok.signatures c.read_directives.result
+    if_one (Exports tree) (IsExportedReading tree) c.in-Ok.signatures c.read_directives.result
     (listed_as (AreExports tree) (IsExportRefusal tree) c.in-Ok.signatures e.signatures e.only e.place)
-    (subst (λ (ss : List Signature). IfOk c.read_directives.result (IsOne (IsExportedReading c.args.command tree ss)))
+    (subst (λ (ss : List Signature). IfOk c.read_directives.result (IsOne (IsExportedReading tree ss)))
     c.as_slice.ensures c.read_directives.ensures.one)
 
 pub returns-in-Err-Refused-clause-one : goal.returns-in-Err-Refused-clause-one
 returns-in-Err-Refused-clause-one c =
     let e = c.in-Err-Refused.ensures in
     let tree = c.args.tree.now in
-    let P : Refusal → Type 0 = λ r. IsOne (IsTreeReading c.args.command tree) (Err r) in
+    let P : Refusal → Type 0 = λ r. IsOne (IsTreeReading tree) (Err r) in
     subst P (sym c.in-Err-Refused.export-is)
-    (then_none (Exports tree) (IsExportedReading c.args.command tree) c.in-Err-Refused.export
+    (then_none (Exports tree) (IsExportedReading tree) c.in-Err-Refused.export
     (not_listed_at (AreExports tree) (IsExportRefusal tree) c.in-Err-Refused.field-0 c.in-Err-Refused.export
     c.in-Err-Refused.field-0-is e.refused e.only e.place))

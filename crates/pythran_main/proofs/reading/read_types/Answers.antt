@@ -10,7 +10,7 @@ returns-in-Ok-clause-one c =
     let tree = c.args.tree.now in
     let signatures = c.args.signatures.now in
     let directives = c.args.directives.now in
-    let last = IsCoreReading c.args.command tree signatures directives in
+    let last = IsCoreReading tree signatures directives in
     if_one (Types tree signatures directives) last c.in-Ok.program c.read_assigned.result
     c.in-Ok.ensures.one c.read_assigned.ensures.one
 
@@ -19,8 +19,8 @@ returns-in-Err-Refused-clause-one c =
     let tree = c.args.tree.now in
     let signatures = c.args.signatures.now in
     let directives = c.args.directives.now in
-    let last = IsCoreReading c.args.command tree signatures directives in
-    let P : Refusal → Type 0 = λ r. IsOne (IsTypedReading c.args.command tree signatures directives) (Err r) in
+    let last = IsCoreReading tree signatures directives in
+    let P : Refusal → Type 0 = λ r. IsOne (IsTypedReading tree signatures directives) (Err r) in
     subst P (sym c.in-Err-Refused.refused-is)
     (refused_one (Types tree signatures directives) last c.in-Err-Refused.field-0
     c.in-Err-Refused.refused c.in-Err-Refused.field-0-is c.in-Err-Refused.ensures.one)

@@ -1,8 +1,8 @@
-use Rattle.std.proofs.Common.{map, subst, List, ℕ, ◌∙◌}
+use Rattle.std.proofs.Common.{subst, List, ℕ, ◌∙◌}
 use Rattle.krn_base.specs.declared.refusal.Rule.TheVariants.{Unassigned}
 use Rattle.use_def.specs.Unassigned.{IsAccepted, IsFirst, Refuses}
 use Rattle.pythran_main.specs.Layers.{IsOne}
-use Rattle.pythran_main.specs.Reading.{Tests, Answered, exported}
+use Rattle.pythran_main.specs.Reading.{Tests, Answered}
 use Rattle.pythran_main.proofs.Modules.{tested}
 use Rattle.pythran_main.proofs.reading.test_assigned.Goals as goal
 

@@ -1,9 +1,9 @@
-use Rattle.std.proofs.Common.{map, subst, List, ℕ, ◌∙◌}
+use Rattle.std.proofs.Common.{subst, List, ℕ, ◌∙◌}
 use Rattle.krn_base.specs.declared.refusal.Rule.TheVariants.{Recursion}
 use Rattle.call_chains.specs.Calls.{own_calls}
 use Rattle.call_chains.specs.Chains.{IsAccepted, IsFirst, Refuses}
 use Rattle.pythran_main.specs.Layers.{IsOne}
-use Rattle.pythran_main.specs.Reading.{Tests, Answered, exported}
+use Rattle.pythran_main.specs.Reading.{Tests, Answered}
 use Rattle.pythran_main.proofs.Modules.{tested}
 use Rattle.pythran_main.proofs.reading.test_chains.Goals as goal
 
