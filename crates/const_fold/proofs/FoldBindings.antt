@@ -522,7 +522,8 @@ module _ (table : Literals) (names : List Ty)
     body_walks : (body : List Core) → all_fit heads rets names body ≡ true → (start last : Bindings) →
         walks body start ≡ Some last → Steps start last (walks (folded_block table body) start)
     body_walks body f start last =
-        block_walks body (all_bodies table Walks leaf_walks gone_walks if_walks for_walks body) f start start last
+        block_walks body (all_bodies table Walks (λ y is stays. leaf_walks y is) gone_walks if_walks for_walks body) f
+        start start last
         (same_covers start)
 
     pub still_walks : (body : List Core) → all_fit heads rets names body ≡ true → (start : Bindings) →

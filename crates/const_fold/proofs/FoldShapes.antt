@@ -243,7 +243,7 @@ module _ (table : Literals) where
 
   body_better : (body : List Core) → Better (shape_of_body body) (shape_of_body (folded_block table body))
   body_better body =
-      block_better body (all_bodies table Keeps (λ y is. leaf_better y)
+      block_better body (all_bodies table Keeps (λ y is stays. leaf_better y)
       (λ to op args at l is. is_better (shape (roll-Core (c.Word to op args at))) simple
       (fold-roll-Core Shape shape_step (c.Word to op args at)))
       if_better for_better body)

@@ -80,6 +80,11 @@ IsLeaf (c.If cond part other) = ⊥
 IsLeaf (c.For var lo hi by at omp body) = ⊥
 IsLeaf _ = Unit {0}
 
+-- a statement that doesn't go
+abbrev pub IsStaying : Literals → {A : Type 0} → c.Core-F A → Type 0
+IsStaying table (c.Word to op args at) = known table to ≡ None
+IsStaying table _ = Unit {0}
+
 module _ (table : Literals) where
   -- a statement with literals for its operands
   abbrev pub with_literals : {A : Type 0} → c.Core-F A → c.Core-F A
@@ -139,7 +144,8 @@ module _ (table : Literals) where
     abbrev pub Stands : Core → Type 0
     Stands x = Q x (fold_one x)
 
-    module _ (leaf : (y : c.Core-F Core) → IsLeaf y → Q (roll-Core y) (roll-Core (with_literals y) ∷ []))
+    module _ (leaf : (y : c.Core-F Core) → IsLeaf y → IsStaying table y →
+        Q (roll-Core y) (roll-Core (with_literals y) ∷ []))
         (gone : (to : ℕ) (op : WordOp) (args : List Oper) (at : Loc) (l : Oper) → known table to ≡ Some l →
         Q (roll-Core (c.Word to op args at)) [])
         (at_if : (cond : Oper) (part other : List Core) → AllByRecursion Stands part → AllByRecursion Stands other →
@@ -162,14 +168,14 @@ module _ (table : Literals) where
         block_is : (gs : List (Good Stands)) → folded_block table (cores gs) ≡ joined (folds gs)
         block_is gs = ap (λ (xs : List (List Core)). joined xs) (sym (fused_list Stands (List Core) fold_one gs))
 
-        by_leaf : (y : c.Core-F Core) (x : Core) → IsLeaf y → roll-Core (with_literals y) ≡ x →
+        by_leaf : (y : c.Core-F Core) (x : Core) → IsLeaf y → IsStaying table y → roll-Core (with_literals y) ≡ x →
             Q (roll-Core y) (x ∷ [])
-        by_leaf y x is e = subst (λ (z : Core). Q (roll-Core y) (z ∷ [])) e (leaf y is)
+        by_leaf y x is stays e = subst (λ (z : Core). Q (roll-Core y) (z ∷ [])) e (leaf y is stays)
 
         by_word : (to : ℕ) (op : WordOp) (args : List Oper) (at : Loc) (o : Option Oper) → known table to ≡ o →
             Q (roll-Core (c.Word to op args at)) (unless_known o (v.Word to op (map (folded table) args) at))
         by_word to op args at None e =
-            by_leaf (c.Word to op args at) (v.Word to op (map (folded table) args) at) tt
+            by_leaf (c.Word to op args at) (v.Word to op (map (folded table) args) at) tt e
             (v.rolls-Word to op (map (folded table) args) at)
         by_word to op args at (Some l) e = gone to op args at l e
 
@@ -185,31 +191,31 @@ module _ (table : Literals) where
             (fold_step table (map-Core (Good Stands) (List Core) (λ g. fold_one g.0) y))
         by_case (c.Word to op args at) = by_word to op args at (known table to) refl
         by_case (c.Extent to of axis) =
-            by_leaf (c.Extent to of axis) (v.Extent to of axis) tt (v.rolls-Extent to of axis)
+            by_leaf (c.Extent to of axis) (v.Extent to of axis) tt tt (v.rolls-Extent to of axis)
         by_case (c.Get to of index at) =
-            by_leaf (c.Get to of index at) (v.Get to of (map (folded table) index) at) tt
+            by_leaf (c.Get to of index at) (v.Get to of (map (folded table) index) at) tt tt
             (v.rolls-Get to of (map (folded table) index) at)
         by_case (c.Put of index value at) =
-            by_leaf (c.Put of index value at) (v.Put of (map (folded table) index) (folded table value) at) tt
+            by_leaf (c.Put of index value at) (v.Put of (map (folded table) index) (folded table value) at) tt tt
             (v.rolls-Put of (map (folded table) index) (folded table value) at)
         by_case (c.Pick to of subs at) =
-            by_leaf (c.Pick to of subs at) (v.Pick to of (map (folded_sub table) subs) at) tt
+            by_leaf (c.Pick to of subs at) (v.Pick to of (map (folded_sub table) subs) at) tt tt
             (v.rolls-Pick to of (map (folded_sub table) subs) at)
-        by_case (c.Flip to of) = by_leaf (c.Flip to of) (v.Flip to of) tt (v.rolls-Flip to of)
-        by_case (c.Alias to of) = by_leaf (c.Alias to of) (v.Alias to of) tt (v.rolls-Alias to of)
+        by_case (c.Flip to of) = by_leaf (c.Flip to of) (v.Flip to of) tt tt (v.rolls-Flip to of)
+        by_case (c.Alias to of) = by_leaf (c.Alias to of) (v.Alias to of) tt tt (v.rolls-Alias to of)
         by_case (c.Fresh to dims fill at) =
-            by_leaf (c.Fresh to dims fill at) (v.Fresh to (map (folded table) dims) fill at) tt
+            by_leaf (c.Fresh to dims fill at) (v.Fresh to (map (folded table) dims) fill at) tt tt
             (v.rolls-Fresh to (map (folded table) dims) fill at)
         by_case (c.Map to op args at) =
-            by_leaf (c.Map to op args at) (v.Map to op (map (folded table) args) at) tt
+            by_leaf (c.Map to op args at) (v.Map to op (map (folded table) args) at) tt tt
             (v.rolls-Map to op (map (folded table) args) at)
         by_case (c.Reduce to op of at) =
-            by_leaf (c.Reduce to op of at) (v.Reduce to op of at) tt (v.rolls-Reduce to op of at)
+            by_leaf (c.Reduce to op of at) (v.Reduce to op of at) tt tt (v.rolls-Reduce to op of at)
         by_case (c.Store of value at) =
-            by_leaf (c.Store of value at) (v.Store of (folded table value) at) tt
+            by_leaf (c.Store of value at) (v.Store of (folded table value) at) tt tt
             (v.rolls-Store of (folded table value) at)
         by_case (c.Call to k xs) =
-            by_leaf (c.Call to k xs) (v.Call to k (map (folded table) xs)) tt
+            by_leaf (c.Call to k xs) (v.Call to k (map (folded table) xs)) tt tt
             (v.rolls-Call to k (map (folded table) xs))
         by_case (c.If cond part other) =
             subst (λ (xs : List Core). Q (roll-Core (c.If cond (cores part) (cores other))) xs)
@@ -224,7 +230,7 @@ module _ (table : Literals) where
             v.rolls-For var (folded table lo) (folded table hi) (folded table by) at omp (joined (folds body)))
             (at_for var lo hi by at omp (cores body) (all_stand body))
         by_case (c.Return values) =
-            by_leaf (c.Return values) (v.Return (map (folded table) values)) tt
+            by_leaf (c.Return values) (v.Return (map (folded table) values)) tt tt
             (v.rolls-Return (map (folded table) values))
 
         layer : (y : c.Core-F (Good Stands)) → Stands (roll-Core (map-Core (Good Stands) Core (λ g. g.0) y))

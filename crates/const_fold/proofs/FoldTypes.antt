@@ -216,7 +216,7 @@ module _ (table : Literals) (names : List Ty)
           all_fit heads rets names (folded_block table body) ≡ true
       body_fits body =
           block_fits body (all_bodies table Fitting
-          (λ y is e. one_fits (roll-Core (with_literals table y)) (fit_same y ∙ e))
+          (λ y is stays e. one_fits (roll-Core (with_literals table y)) (fit_same y ∙ e))
           (λ to op args at l is e. refl)
           (λ cond part other f g e. let h = if_given cond part other e in
           cores_fit (folded table cond) (folded_block table part) (folded_block table other) (record {
@@ -334,5 +334,6 @@ module _ (R : ℕ → Type 0) (table : Literals) where
 
   pub body_below : (body : List Core) → AllR (calls_of body) → AllR (calls_of (folded_block table body))
   body_below body =
-      block_below body (all_bodies table Below (λ y is. leaf_below y) (λ to op args at l is f. tt) if_below for_below
+      block_below body (all_bodies table Below (λ y is stays. leaf_below y) (λ to op args at l is f. tt) if_below
+      for_below
       body)

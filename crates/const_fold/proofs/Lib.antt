@@ -5,6 +5,8 @@ pub mod RoundLaws
 pub mod FoldTests
 pub mod FoldTrees
 pub mod Right
+pub mod Counted
+pub mod Settled
 pub mod FoldTypes
 pub mod FoldShapes
 pub mod FoldBindings

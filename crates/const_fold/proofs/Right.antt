@@ -33,19 +33,19 @@ use Rattle.const_fold.proofs.FoldTests.{and_left, and_right, none_some, not_true
 use Rattle.const_fold.proofs.FoldTrees.{Both, Good, by_both, firsts, seconds}
 
 -- ---- what is learned, by the facts alone
-abbrev name_of : Fact → ℕ
+abbrev pub name_of : Fact → ℕ
 name_of (Makes to op args) = to
 name_of (Binds to) = to
 
-abbrev names_of : List Fact → List ℕ
+abbrev pub names_of : List Fact → List ℕ
 names_of xs = map name_of xs
 
 module _ (f : Instance) where
-  abbrev learn_fact : Fact → Learning
+  abbrev pub learn_fact : Fact → Learning
   learn_fact (Makes to op args) table = enter (may_fold f to) to (makes f.names table to op args) table
   learn_fact (Binds to) table = table
 
-  abbrev after : List Fact → Learning
+  abbrev pub after : List Fact → Learning
   after [] table = table
   after (x ∷ xs) table = after xs (learn_fact x table)
 
@@ -53,7 +53,7 @@ module _ (f : Instance) where
   after_append [] ys table = refl
   after_append (x ∷ xs) ys table = after_append xs ys (learn_fact x table)
 
-  abbrev Learns : Learning → List Fact → Type 0
+  abbrev pub Learns : Learning → List Fact → Type 0
   Learns learning xs = (table : Literals) → learning table ≡ after xs table
 
   abbrev Known : Core → Type 0
@@ -112,7 +112,7 @@ module _ (f : Instance) where
   learns_one : (x : Core) → Known x
   learns_one = by_both Learning (List Fact) (learn_step f) facts_step Learns learns_case
 
-  learns : (block : List Core) → Learns (learn f block) (facts block)
+  pub learns : (block : List Core) → Learns (learn f block) (facts block)
   learns [] table = refl
   learns (x ∷ block) table =
       ap (learn f block) (learns_one x table) ∙
@@ -295,10 +295,10 @@ literal_type types t (oper.Truth b) e = sym e
 literal_type types t (oper.Name name) e = absurd e
 
 -- ---- how often a name is bound
-abbrev counted : Bool → ℕ
+abbrev pub counted : Bool → ℕ
 counted b = cond b 1 0
 
-times_cons : (name other : ℕ) (names : List ℕ) →
+pub times_cons : (name other : ℕ) (names : List ℕ) →
     times name (other ∷ names) ≡ counted (other == name) + times name names
 times_cons name other names = sum_by-cons (λ (n : ℕ). cond (n == name) 1 0) other names
 

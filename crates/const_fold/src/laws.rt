@@ -2,7 +2,7 @@
 ghost use Rattle.eager_rules.specs.Sound.{IsSound};
 ghost use Rattle.eager_rules.specs.declared.program.Program.{Program as AnyProgram};
 ghost use Rattle.const_fold.specs.Folded.{folded_program};
-ghost use Rattle.const_fold.specs.Promise.{KeepsKernels};
+ghost use Rattle.const_fold.specs.Promise.{IsSettled, KeepsKernels};
 ghost use Rattle.inline.specs.Flattened.{HasNoCalls};
 ghost use Rattle.inline.specs.Kept.{HasOutcomes};
 
@@ -21,6 +21,11 @@ pub fn folded_keeps_kernels()
 /// A program without own calls has none when it is folded.
 pub fn folded_calls_nothing()
     ensures { (program : AnyProgram) → HasNoCalls program → HasNoCalls (folded_program program) }
+{}
+
+/// No further round changes a folded program.
+pub fn folded_is_settled()
+    ensures { (program : AnyProgram) → IsSettled (folded_program program) }
 {}
 
 /// Folding keeps the outcomes of a sound program without own calls.

@@ -1,13 +1,14 @@
 //! The folded form of a program.
 ghost use Rattle.std.specs.Prelude.{◌≡◌, IfOk, map};
 ghost use Rattle.const_fold.specs.Folded as spec;
-ghost use Rattle.const_fold.specs.Promise.{KeepsKernels};
+ghost use Rattle.const_fold.specs.Promise.{IsSettled, KeepsKernels};
 ghost use Rattle.eager_rules.specs.Sound.{IsSound};
 ghost use Rattle.inline.specs.Flattened.{HasNoCalls};
 ghost use Rattle.inline.specs.Kept.{HasOutcomes};
 
 use crate::laws::{
-    folded_calls_nothing, folded_is_sound, folded_keeps_kernels, folding_keeps_outcomes,
+    folded_calls_nothing, folded_is_settled, folded_is_sound, folded_keeps_kernels,
+    folding_keeps_outcomes,
 };
 use crate::round::round;
 use crate::tallies::bound_names;
@@ -66,6 +67,7 @@ fn program_form(alloc: Global, program: &Program) -> Result<Program, NoMemory>
 /// another name may then be bound once, or make a literal. A body without such chains takes two.
 pub fn fold(alloc: Global, program: &Program) -> Result<Program, NoMemory>
     ensures form { IfOk result (λ folded. folded ≡ spec.folded_program program.now) }
+    ensures settled { IfOk result IsSettled }
     ensures kernels { IfOk result (λ folded. KeepsKernels program.now folded) }
     ensures sound { IfOk result (λ folded. IsSound program.now → IsSound folded) }
     ensures flat { IfOk result (λ folded. HasNoCalls program.now → HasNoCalls folded) }
@@ -75,6 +77,7 @@ pub fn fold(alloc: Global, program: &Program) -> Result<Program, NoMemory>
     ensures outcomes { IfOk result (λ folded. IsSound program.now → HasNoCalls program.now →
         HasOutcomes program.now folded) }
 {
+    folded_is_settled();
     folded_is_sound();
     folded_keeps_kernels();
     folded_calls_nothing();
