@@ -64,7 +64,8 @@ fn program_form(alloc: Global, program: &Program) -> Result<Program, NoMemory>
 /// stands in no loop's reductions; its literal is what the statement makes of literals, where that is no fault.
 ///
 /// Takes rounds over each instance. A round is linear in it; another comes where the round took a binding away, as
-/// another name may then be bound once, or make a literal. A body without such chains takes two.
+/// another name may then be bound once. A body without such chains takes two; at the worst, where the part that each
+/// `If` drops frees the name of the next one, there are as many as bindings, and the time is the square of the body.
 pub fn fold(alloc: Global, program: &Program) -> Result<Program, NoMemory>
     ensures form { IfOk result (λ folded. folded ≡ spec.folded_program program.now) }
     ensures settled { IfOk result IsSettled }
